@@ -1,0 +1,2 @@
+pub mod Conds
+pub mod Parts
