@@ -1,0 +1,4 @@
+pub mod Entries
+pub mod Headers
+pub mod Ways
+pub mod Sounds

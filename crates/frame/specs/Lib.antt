@@ -1,0 +1,5 @@
+pub mod Limits
+pub mod Header
+pub mod Entry
+pub mod Decide
+pub mod Deciding
