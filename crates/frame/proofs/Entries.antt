@@ -8,9 +8,10 @@ use native.Mathlib.Numerals.{sub-one}
 use native.Mathlib.Nat.{not-suc-le-zero}
 use lib.Dec.{ltb, eqb}
 use lib.ListN.{length, take, drop, getD, length-drop}
-use borrow.Author.Tests.{eq-eqb, ne-eqb, ltb-false, eqb-true, eqb-false}
+use borrow.Author.Tests.{eq-eqb, ne-eqb, lt-ltb, le-ltb, ltb-false, eqb-false}
 use Rattle.laws.proofs.Conds.{cond-left, cond-right}
 use Rattle.octets.specs.Numbers.{be32At}
+use Rattle.frame.specs.Limits.{notification, leastCommand, leastNotification, leastResponse}
 use Rattle.frame.specs.Entry.{leastEntry, countPlace, leastCount, countFits, entryFits, entrySize, entriesFill}
 
 -- the parameter count stands before the parameters, behind the size
@@ -82,3 +83,16 @@ entries-few (suc n) k t e =
     let w = entry-at k t (p .0) in
     let h = entries-few n k (drop (entrySize k t) t) (p .1) in
     omega (arith, length-drop (entrySize k t) t, least-holds k .0, w .low, w .high, w .size)
+
+-- the least entry, by type
+pub least-command : (k : ℕ) → k < notification → leastEntry k ≡ leastCommand
+unfolding leastEntry
+least-command k h = simp (lt-ltb k notification h)
+
+pub least-notification : (k : ℕ) → k ≡ notification → leastEntry k ≡ leastNotification
+unfolding leastEntry
+least-notification k h = simp (le-ltb k notification (omega arith), eq-eqb k notification h)
+
+pub least-response : (k : ℕ) → notification < k → leastEntry k ≡ leastResponse
+unfolding leastEntry
+least-response k h = simp (le-ltb k notification (omega arith), ne-eqb k notification (λ e. omega arith))

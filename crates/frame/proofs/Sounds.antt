@@ -8,22 +8,14 @@ use lib.ListN.{length, take, drop, getD}
 use lib.Seq.{getD-take, length-take-le}
 use Rattle.octets.specs.Numbers.{be16At}
 use Rattle.laws.proofs.Conds.{cond-left}
-use Rattle.frame.specs.Limits.{sync, headerEnd, faultData}
+use Rattle.frame.specs.Limits.{headerEnd, faultData}
 use Rattle.frame.specs.Header.{pduType, messageCount, messageLength, headerFault}
 use Rattle.frame.specs.Decide.{dataSound, decideData, decide, settled}
+use Rattle.frame.specs.Sound.{SoundAt}
 use Rattle.frame.specs.declared.Decision.{Decision}
 use Rattle.frame.specs.declared.Decision.the-variants.{Undecided, Faulty, Sound}
 use Rattle.frame.proofs.Headers.{sound-header}
 use Rattle.frame.proofs.Ways.{Way, none, start, few, header, part, whole, way, way-back}
-
--- a sound message of n bytes at the front of s
-pub record SoundAt (s : List ℕ) (n : ℕ) : Type 0 where
-  pub first : getD s 0 0 ≡ sync
-  pub header : headerFault s ≡ 0
-  pub size : n ≡ messageLength s
-  pub low : headerEnd ≤ n
-  pub high : n ≤ length s
-  pub body : dataSound (pduType s) (messageCount s) (drop headerEnd (take n s)) ≡ true
 
 -- a whole message's type and count are those of its header
 type-take : (n : ℕ) (s : List ℕ) → headerEnd ≤ n → pduType (take n s) ≡ pduType s

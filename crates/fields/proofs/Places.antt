@@ -1,0 +1,48 @@
+-- Laws of where an entry stands. Assumes nothing.
+use Prim.Native.Nat.{ℕ, zero, suc, _-_, _≤_, _<_}
+use mathlib.Core.Path.{_≡_, refl}
+use mathlib.Core.List.{List}
+use mathlib.Core.Bool.{true}
+use native.Mathlib.Omega.{arith}
+use native.Mathlib.Numerals.{sub-one}
+use native.Mathlib.Nat.{not-suc-le-zero}
+use lib.ListN.{length, take, drop}
+use lib.Seq.{length-take-le}
+use lib.Dec.{eqb}
+use borrow.Author.Tests.{eqb-true, ne-eqb}
+use Rattle.frame.specs.Limits.{secondsBytes, millisecondsBytes}
+use Rattle.frame.specs.Entry.{leastEntry, entrySize, entriesFill}
+use Rattle.frame.specs.Decide.{keepAliveFill}
+use Rattle.frame.proofs.Entries.{entry-at, entries-first}
+use Rattle.fields.specs.Place.{entriesFrom, entryBytes}
+
+pub from-end : (left k : ℕ) (t : List ℕ) → left ≤ 0 → entriesFrom left k t ≡ t
+unfolding entriesFrom
+from-end zero k t h = refl
+from-end (suc n) k t h = absurd (not-suc-le-zero h)
+
+pub from-step : (left k : ℕ) (t : List ℕ) → 0 < left → entriesFrom left k t ≡ entriesFrom (left - 1) k (drop (entrySize k t) t)
+unfolding entriesFrom
+from-step zero k t h = absurd (not-suc-le-zero h)
+from-step (suc n) k t h = simp sub-one
+
+-- each of the entries that fill some data is well formed
+pub entries-get : (i n k : ℕ) (t : List ℕ) → i < n → entriesFill n k t ≡ true → entrySize k (entriesFrom i k t) ≡ 0 → ⊥
+unfolding entriesFrom
+entries-get zero zero k t h e z = not-suc-le-zero h
+entries-get (suc i) zero k t h e z = not-suc-le-zero h
+entries-get zero (suc n) k t h e z = entries-first n k t e .0 z
+entries-get (suc i) (suc n) k t h e z = entries-get i n k (drop (entrySize k t) t) (omega arith) (entries-first n k t e .1) z
+
+pub entry-length : (i n k : ℕ) (t : List ℕ) → i < n → entriesFill n k t ≡ true → leastEntry k ≤ length (entryBytes i k t)
+unfolding entryBytes
+entry-length i n k t h e =
+    let u = entriesFrom i k t in
+    let w = entry-at k u (entries-get i n k t h e) in
+    let l : entrySize k u ≤ length u = omega (arith, w .size, w .high) in
+    omega (arith, length-take-le (entrySize k u) u l, w .size, w .low)
+
+-- a keep-alive's data that is not seconds is milliseconds
+pub keep-long : (t : List ℕ) → keepAliveFill t ≡ true → (length t ≡ secondsBytes → ⊥) → length t ≡ millisecondsBytes
+unfolding keepAliveFill
+keep-long t e n = eqb-true (length t) millisecondsBytes (rw (ne-eqb (length t) secondsBytes n) at e)

@@ -1,0 +1,43 @@
+-- The fields of an entry and of a keep-alive, in the order of the table of document 01 'The wire'.
+use Prim.Native.Nat.{ℕ, _+_}
+use mathlib.Core.List.{List}
+use mathlib.Core.Bool.{cond}
+use lib.ListN.{length, getD}
+use lib.Dec.{eqb}
+use Rattle.octets.specs.Numbers.{be16At, be32At}
+use Rattle.frame.specs.Limits.{secondsBytes}
+use Rattle.heartbeat.specs.declared.Heartbeat.{Heartbeat}
+use Rattle.heartbeat.specs.declared.Heartbeat.the-variants.{InSeconds, InMilliseconds}
+use Rattle.fields.specs.declared.Method.{Method}
+use Rattle.fields.specs.declared.CommandFields.{CommandFields}
+use Rattle.fields.specs.declared.NotificationFields.{NotificationFields}
+use Rattle.fields.specs.declared.ResponseFields.{ResponseFields}
+
+-- "A method or event is level 2, index 2"
+unfoldable pub methodAt : List ℕ → ℕ → Method
+methodAt e at = record { level = be16At e at; index = be16At e (at + 2) }
+
+-- "size 4, handle 4, target 4, method 4, parameter count 1"
+unfoldable pub commandOf : List ℕ → CommandFields
+commandOf e = record { handle = be32At e 4; target = be32At e 8; method = methodAt e 12; count = getD e 16 0 }
+
+-- "size 4, target 4, method 4, parameter count 1, context 4, emitter 4, event 4"
+unfoldable pub notificationOf : List ℕ → NotificationFields
+notificationOf e =
+    record {
+      target = be32At e 4;
+      method = methodAt e 8;
+      count = getD e 12 0;
+      context = be32At e 13;
+      emitter = be32At e 17;
+      event = methodAt e 21;
+    }
+
+-- "size 4, handle 4, status 1, parameter count 1"
+unfoldable pub responseOf : List ℕ → ResponseFields
+responseOf e = record { handle = be32At e 4; status = getD e 8 0; count = getD e 9 0 }
+
+-- a keep-alive's data: "the length of the data tells which"
+unfoldable pub heartbeatOf : List ℕ → Heartbeat
+heartbeatOf t =
+    cond (eqb (length t) secondsBytes) (InSeconds (record { 0 = be16At t 0 })) (InMilliseconds (record { 0 = be32At t 0 }))

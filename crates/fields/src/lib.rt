@@ -1,0 +1,129 @@
+// Where an entry stands, its fields and its parameters, and the heartbeat that a keep-alive carries.
+use heartbeat::Heartbeat;
+use heartbeat::Milliseconds;
+use heartbeat::Seconds;
+ghost use mathlib.Core.Path.{_≡_};
+ghost use mathlib.Core.Bool.{true};
+ghost use Prim.Native.Nat.{_+_, _≤_};
+ghost use lib.ListN.{length};
+ghost use Rattle.frame.specs.Entry.{leastEntry};
+ghost use Rattle.frame.specs.Decide.{keepAliveFill};
+ghost use Rattle.fields.specs.Place.{entriesFrom, entryBytes, parametersOf};
+ghost use Rattle.fields.specs.Fields.{methodAt, commandOf, notificationOf, responseOf, heartbeatOf};
+
+pub struct Method {
+    pub level: u16,
+    pub index: u16,
+}
+
+pub struct CommandFields {
+    pub handle: u32,
+    pub target: u32,
+    pub method: Method,
+    pub count: u8,
+}
+
+pub struct NotificationFields {
+    pub target: u32,
+    pub method: Method,
+    pub count: u8,
+    pub context: u32,
+    pub emitter: u32,
+    pub event: Method,
+}
+
+pub struct ResponseFields {
+    pub handle: u32,
+    pub status: u8,
+    pub count: u8,
+}
+
+// The data from entry index on.
+fn entries_from<'a>(body: &'a [u8], kind: u8, index: usize) -> &'a [u8]
+    ensures { λ r. ⌜ now r ≡ entriesFrom index kind (now (body .entry)) ⌝ }
+{
+    let mut t = body;
+    let mut left = index;
+    while 0 < left {
+        let n = frame::entry_size(t, kind);
+        t = &t[n..];
+        left -= 1;
+    }
+    t
+}
+
+// The bytes of entry index, size included.
+pub fn entry_bytes<'a>(body: &'a [u8], kind: u8, index: usize) -> &'a [u8]
+    ensures { λ r. ⌜ now r ≡ entryBytes index kind (now (body .entry)) ⌝ }
+{
+    let t = entries_from(body, kind, index);
+    let n = frame::entry_size(t, kind);
+    &t[..n]
+}
+
+// The entry's parameters, as a part of it.
+pub fn parameters<'a>(kind: u8, e: &'a [u8]) -> &'a [u8]
+    requires { ⌜ leastEntry kind ≤ length (now e) ⌝ }
+    ensures { λ r. ⌜ now r ≡ parametersOf kind (now (e .entry)) ⌝ }
+{
+    let least = frame::least_entry(kind);
+    &e[least..]
+}
+
+fn method_at(e: &[u8], at: usize) -> Method
+    requires { ⌜ at + 4 ≤ length (now e) ⌝ }
+    ensures { λ r. ⌜ r ≡ methodAt (now (e .entry)) at ⌝ }
+{
+    Method {
+        level: octets::be16(e, at),
+        index: octets::be16(e, at + 2),
+    }
+}
+
+pub fn command_of(e: &[u8]) -> CommandFields
+    requires { ⌜ 17 ≤ length (now e) ⌝ }
+    ensures { λ r. ⌜ r ≡ commandOf (now (e .entry)) ⌝ }
+{
+    CommandFields {
+        handle: octets::be32(e, 4),
+        target: octets::be32(e, 8),
+        method: method_at(e, 12),
+        count: e[16],
+    }
+}
+
+pub fn notification_of(e: &[u8]) -> NotificationFields
+    requires { ⌜ 25 ≤ length (now e) ⌝ }
+    ensures { λ r. ⌜ r ≡ notificationOf (now (e .entry)) ⌝ }
+{
+    NotificationFields {
+        target: octets::be32(e, 4),
+        method: method_at(e, 8),
+        count: e[12],
+        context: octets::be32(e, 13),
+        emitter: octets::be32(e, 17),
+        event: method_at(e, 21),
+    }
+}
+
+pub fn response_of(e: &[u8]) -> ResponseFields
+    requires { ⌜ 10 ≤ length (now e) ⌝ }
+    ensures { λ r. ⌜ r ≡ responseOf (now (e .entry)) ⌝ }
+{
+    ResponseFields {
+        handle: octets::be32(e, 4),
+        status: e[8],
+        count: e[9],
+    }
+}
+
+// The heartbeat of a keep-alive's data.
+pub fn heartbeat_of(body: &[u8]) -> Heartbeat
+    requires { ⌜ keepAliveFill (now body) ≡ true ⌝ }
+    ensures { λ r. ⌜ r ≡ heartbeatOf (now (body .entry)) ⌝ }
+{
+    if body.len() == frame::SECONDS_BYTES {
+        return Heartbeat::InSeconds(Seconds(octets::be16(body, 0)));
+    }
+    Heartbeat::InMilliseconds(Milliseconds(octets::be32(body, 0)))
+}

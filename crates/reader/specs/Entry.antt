@@ -1,0 +1,51 @@
+-- Reading entry i and its part: document 01 'The wire' and rows 8, 9 and 12 of 'What calls refuse'.
+use Prim.Native.Nat.{ℕ}
+use mathlib.Core.List.{List, [], _∷_}
+use mathlib.Core.Bool.{Bool, cond, false}
+use lib.Dec.{ltb, eqb}
+use Rattle.frame.specs.Limits.{notification, keepAlive}
+use Rattle.frame.specs.Header.{pduType, messageCount}
+use Rattle.frame.specs.Decide.{decide}
+use Rattle.frame.specs.declared.Decision.{Decision}
+use Rattle.frame.specs.declared.Decision.the-variants.{Undecided, Faulty, Sound}
+use Rattle.fields.specs.Place.{entryBytes, parametersOf}
+use Rattle.fields.specs.Fields.{commandOf, notificationOf, responseOf}
+use Rattle.reader.specs.Numbers.{fault, short, noEntry, commandNumbers, notificationNumbers, responseNumbers}
+use Rattle.reader.specs.Read.{dataOf}
+
+-- "12 NoEntry: entry number not below the count, or a keep-alive"
+unfoldable pub hasEntry : ℕ → ℕ → ℕ → Bool
+hasEntry kind count i = cond (eqb kind keepAlive) false (ltb i count)
+
+-- the fields of the entry e, by its type
+unfoldable pub fieldsOf : ℕ → List ℕ → List ℕ
+fieldsOf kind e =
+    cond (ltb kind notification) (0 ∷ commandNumbers (commandOf e))
+    (cond (eqb kind notification) (0 ∷ notificationNumbers (notificationOf e)) (0 ∷ responseNumbers (responseOf e)))
+
+-- entry i's bytes in the sound message of n bytes
+abbrev pub entryAt : List ℕ → ℕ → ℕ → List ℕ
+entryAt s n i = entryBytes i (pduType s) (dataOf s n)
+
+unfoldable pub entryIn : List ℕ → ℕ → ℕ → List ℕ
+entryIn s n i = cond (hasEntry (pduType s) (messageCount s) i) (fieldsOf (pduType s) (entryAt s n i)) (noEntry ∷ [])
+
+unfoldable pub entryBy : Decision → List ℕ → ℕ → List ℕ
+entryBy Undecided s i = short ∷ []
+entryBy (Faulty f n) s i = fault ∷ f ∷ []
+entryBy (Sound n) s i = entryIn s n i
+
+unfoldable pub entryOf : List ℕ → ℕ → List ℕ
+entryOf s i = entryBy (decide s) s i
+
+-- "That part comes by a call of its own, and is empty where the entry is refused"
+unfoldable pub partIn : List ℕ → ℕ → ℕ → List ℕ
+partIn s n i = cond (hasEntry (pduType s) (messageCount s) i) (parametersOf (pduType s) (entryAt s n i)) []
+
+unfoldable pub partBy : Decision → List ℕ → ℕ → List ℕ
+partBy Undecided s i = []
+partBy (Faulty f n) s i = []
+partBy (Sound n) s i = partIn s n i
+
+unfoldable pub partOf : List ℕ → ℕ → List ℕ
+partOf s i = partBy (decide s) s i

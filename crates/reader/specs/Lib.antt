@@ -1,0 +1,5 @@
+pub mod Numbers
+pub mod Read
+pub mod Entry
+pub mod Tell
+pub mod Examples

@@ -1,0 +1,63 @@
+-- Document 01's number and values for each case of the reader's answers. 0 stands for an answer that is no refusal.
+use Prim.Native.Nat.{ℕ}
+use mathlib.Core.List.{List, [], _∷_}
+use Rattle.frame.specs.Limits.{commandWantingReply, notification, response, keepAlive}
+use Rattle.heartbeat.specs.Beat.{formOf, valueOf}
+use Rattle.heartbeat.specs.declared.Heartbeat.{Heartbeat}
+use Rattle.fields.specs.declared.CommandFields.{CommandFields}
+use Rattle.fields.specs.declared.NotificationFields.{NotificationFields}
+use Rattle.fields.specs.declared.ResponseFields.{ResponseFields}
+use Rattle.reader.specs.declared.Message.{Message}
+use Rattle.reader.specs.declared.Message.the-variants.{Command, CommandWantingReply, Notification, Response, KeepAlive}
+use Rattle.reader.specs.declared.Reading.{Reading}
+use Rattle.reader.specs.declared.Reading.the-variants as reading
+use Rattle.reader.specs.declared.Entry.{Entry}
+use Rattle.reader.specs.declared.Entry.the-variants as entry
+
+-- the refusals of 'What calls refuse' that the reader gives
+abbrev pub fault : ℕ
+fault = 8
+
+abbrev pub short : ℕ
+short = 9
+
+abbrev pub noEntry : ℕ
+noEntry = 12
+
+-- a heartbeat: its form and its value in that form's unit
+unfoldable pub heartbeatNumbers : Heartbeat → List ℕ
+heartbeatNumbers h = formOf h ∷ valueOf h ∷ []
+
+-- a message: its type and its messageCount; a keep-alive's count is 1, and its heartbeat follows
+unfoldable pub messageNumbers : Message → List ℕ
+messageNumbers (Command n) = 0 ∷ n ∷ []
+messageNumbers (CommandWantingReply n) = commandWantingReply ∷ n ∷ []
+messageNumbers (Notification n) = notification ∷ n ∷ []
+messageNumbers (Response n) = response ∷ n ∷ []
+messageNumbers (KeepAlive h) = keepAlive ∷ 1 ∷ heartbeatNumbers h
+
+-- a reading: the message's length and what it is; or 8 and the fault; or 9
+unfoldable pub readingNumbers : Reading → List ℕ
+readingNumbers (reading.Read m n) = 0 ∷ n ∷ messageNumbers m
+readingNumbers (reading.Fault f) = fault ∷ f ∷ []
+readingNumbers reading.Short = short ∷ []
+
+-- the fields of an entry, in the order of the table, its type first (0 for both kinds of command)
+unfoldable pub commandNumbers : CommandFields → List ℕ
+commandNumbers c = 0 ∷ c .handle ∷ c .target ∷ c .method .level ∷ c .method .index ∷ c .count ∷ []
+
+unfoldable pub notificationNumbers : NotificationFields → List ℕ
+notificationNumbers n =
+    notification ∷ n .target ∷ n .method .level ∷ n .method .index ∷ n .count ∷ n .context ∷ n .emitter ∷ n .event .level ∷ n .event .index ∷ []
+
+unfoldable pub responseNumbers : ResponseFields → List ℕ
+responseNumbers r = response ∷ r .handle ∷ r .status ∷ r .count ∷ []
+
+-- an entry: its fields; or 8 and the fault; or 9; or 12
+unfoldable pub entryNumbers : Entry → List ℕ
+entryNumbers (entry.Command c) = 0 ∷ commandNumbers c
+entryNumbers (entry.Notification n) = 0 ∷ notificationNumbers n
+entryNumbers (entry.Response r) = 0 ∷ responseNumbers r
+entryNumbers (entry.Fault f) = fault ∷ f ∷ []
+entryNumbers entry.Short = short ∷ []
+entryNumbers entry.NoEntry = noEntry ∷ []

@@ -1,0 +1,158 @@
+// The reader of whole messages: the message at the front of some bytes, its entries, and each entry's part.
+use fields::CommandFields;
+use fields::NotificationFields;
+use fields::ResponseFields;
+use frame::Decision;
+use heartbeat::Heartbeat;
+ghost use mathlib.Core.Path.{_≡_};
+ghost use mathlib.Core.List.{[], _∷_};
+ghost use Prim.Native.Nat.{_≤_};
+ghost use lib.ListN.{length};
+ghost use Rattle.frame.specs.Entry.{leastEntry};
+ghost use Rattle.frame.specs.Sound.{SoundAt};
+ghost use Rattle.reader.specs.Numbers.{messageNumbers, readingNumbers, entryNumbers};
+ghost use Rattle.reader.specs.Read.{messageOf, readOf};
+ghost use Rattle.reader.specs.Entry.{hasEntry, fieldsOf, entryAt, entryIn, entryOf, partIn, partOf};
+ghost use Rattle.reader.specs.Tell.{NumbersTell};
+ghost use Rattle.reader.specs.Examples.{ExamplesRead};
+
+// A sound message: its messageCount, or a keep-alive's heartbeat.
+pub enum Message {
+    Command(u16),
+    CommandWantingReply(u16),
+    Notification(u16),
+    Response(u16),
+    KeepAlive(Heartbeat),
+}
+
+pub enum Reading {
+    // the message and its length, the 3B counted
+    Read(Message, usize),
+    Fault(u8),
+    Short,
+}
+
+pub enum Entry {
+    Command(CommandFields),
+    Notification(NotificationFields),
+    Response(ResponseFields),
+    Fault(u8),
+    Short,
+    NoEntry,
+}
+
+fn message_of(kind: u8, count: u16) -> Message
+    requires { ⌜ kind ≤ 3 ⌝ }
+    ensures { λ r. ⌜ messageNumbers r ≡ kind ∷ count ∷ [] ⌝ }
+{
+    match kind {
+        0 => Message::Command(count),
+        1 => Message::CommandWantingReply(count),
+        2 => Message::Notification(count),
+        _ => Message::Response(count),
+    }
+}
+
+// The sound message of n bytes at the front of s.
+fn message_in(s: &[u8], n: usize) -> Message
+    requires { ⌜ SoundAt (now s) n ⌝ }
+    ensures { λ r. ⌜ messageNumbers r ≡ messageOf (now (s .entry)) n ⌝ }
+{
+    if s[7] == frame::KEEP_ALIVE {
+        return Message::KeepAlive(fields::heartbeat_of(&s[frame::HEADER_END..n]));
+    }
+    message_of(s[7], octets::be16(s, 8))
+}
+
+// The message at the front of s.
+pub fn read_message(s: &[u8]) -> Reading
+    ensures { λ r. ⌜ readingNumbers r ≡ readOf (now (s .entry)) ⌝ }
+{
+    match frame::decide(s) {
+        Decision::Undecided => Reading::Short,
+        Decision::Faulty(f, _) => Reading::Fault(f),
+        Decision::Sound(n) => Reading::Read(message_in(s, n), n),
+    }
+}
+
+fn has_entry(kind: u8, count: u16, index: usize) -> bool
+    ensures { λ r. ⌜ r ≡ hasEntry kind count index ⌝ }
+{
+    if kind == frame::KEEP_ALIVE {
+        return false;
+    }
+    index < count as usize
+}
+
+// Entry index of the sound message of n bytes at the front of s.
+fn entry_at<'a>(s: &'a [u8], n: usize, index: usize) -> &'a [u8]
+    requires { ⌜ SoundAt (now s) n ⌝ }
+    ensures { λ r. ⌜ now r ≡ entryAt (now (s .entry)) n index ⌝ }
+{
+    fields::entry_bytes(&s[frame::HEADER_END..n], s[7], index)
+}
+
+fn fields_of(kind: u8, e: &[u8]) -> Entry
+    requires { ⌜ leastEntry kind ≤ length (now e) ⌝ }
+    ensures { λ r. ⌜ entryNumbers r ≡ fieldsOf kind (now (e .entry)) ⌝ }
+{
+    if kind < frame::NOTIFICATION {
+        return Entry::Command(fields::command_of(e));
+    }
+    if kind == frame::NOTIFICATION {
+        return Entry::Notification(fields::notification_of(e));
+    }
+    Entry::Response(fields::response_of(e))
+}
+
+fn entry_in(s: &[u8], n: usize, index: usize) -> Entry
+    requires { ⌜ SoundAt (now s) n ⌝ }
+    ensures { λ r. ⌜ entryNumbers r ≡ entryIn (now (s .entry)) n index ⌝ }
+{
+    if has_entry(s[7], octets::be16(s, 8), index) {
+        return fields_of(s[7], entry_at(s, n, index));
+    }
+    Entry::NoEntry
+}
+
+// Entry index of the message at the front of s.
+pub fn read_entry(s: &[u8], index: usize) -> Entry
+    ensures { λ r. ⌜ entryNumbers r ≡ entryOf (now (s .entry)) index ⌝ }
+{
+    match frame::decide(s) {
+        Decision::Undecided => Entry::Short,
+        Decision::Faulty(f, _) => Entry::Fault(f),
+        Decision::Sound(n) => entry_in(s, n, index),
+    }
+}
+
+fn part_in<'a>(s: &'a [u8], n: usize, index: usize) -> &'a [u8]
+    requires { ⌜ SoundAt (now s) n ⌝ }
+    ensures { λ r. ⌜ now r ≡ partIn (now (s .entry)) n index ⌝ }
+{
+    if has_entry(s[7], octets::be16(s, 8), index) {
+        return fields::parameters(s[7], entry_at(s, n, index));
+    }
+    &s[..0]
+}
+
+// The parameters of entry index, as a part of s: empty where the entry is refused.
+pub fn entry_part<'a>(s: &'a [u8], index: usize) -> &'a [u8]
+    ensures { λ r. ⌜ now r ≡ partOf (now (s .entry)) index ⌝ }
+{
+    match frame::decide(s) {
+        Decision::Undecided => &s[..0],
+        Decision::Faulty(_, _) => &s[..0],
+        Decision::Sound(n) => part_in(s, n, index),
+    }
+}
+
+// The numbers of an answer tell it from every other.
+pub fn numbers_tell()
+    ensures { λ r. ⌜ NumbersTell ⌝ }
+{}
+
+// The starred messages of document 01 read as it says.
+pub fn examples_read()
+    ensures { λ r. ⌜ ExamplesRead ⌝ }
+{}
