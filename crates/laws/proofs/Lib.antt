@@ -1,3 +1,4 @@
 pub mod Conds
 pub mod Parts
 pub mod Inverse
+pub mod Stores

@@ -1,8 +1,12 @@
 // Numbers of the wire, most significant byte first, read from and written to slices of bytes.
 ghost use mathlib.Core.Path.{_≡_};
+ghost use mathlib.Core.Bool.{_&&_};
 ghost use Prim.Native.Nat.{_+_, _*_, _≤_};
 ghost use lib.ListN.{length};
-ghost use Rattle.octets.specs.Numbers.{be16At, be32At};
+ghost use lib.Dec.{eqb};
+ghost use lib.Seq.{sets};
+ghost use Rattle.octets.specs.Numbers.{be16At, be32At, bytes16, bytes32};
+ghost use Rattle.octets.specs.Zeros.{zeros, allZero};
 
 fn pair(a: u8, b: u8) -> u16
     ensures { λ r. ⌜ r ≡ a * 256 + b ⌝ }
@@ -31,4 +35,61 @@ pub fn be32(s: &[u8], at: usize) -> u32
     ensures { λ r. ⌜ r ≡ be32At (now (s .entry)) at ⌝ }
 {
     quad(s[at], s[at + 1], s[at + 2], s[at + 3])
+}
+
+// The two bytes of v, stored from place at on: division, and not shifts, compiles to a byte swap and one store.
+pub fn put16(s: &mut [u8], at: usize, v: u16)
+    requires { ⌜ at + 2 ≤ length (now s) ⌝ }
+    ensures { λ _. ⌜ now (s .exit) ≡ sets (now (s .entry)) at (bytes16 v) ⌝ }
+{
+    s[at] = (v / 256 % 256) as u8;
+    s[at + 1] = (v % 256) as u8;
+}
+
+// The four bytes of v, stored from place at on.
+pub fn put32(s: &mut [u8], at: usize, v: u32)
+    requires { ⌜ at + 4 ≤ length (now s) ⌝ }
+    ensures { λ _. ⌜ now (s .exit) ≡ sets (now (s .entry)) at (bytes32 v) ⌝ }
+{
+    s[at] = (v / 16777216 % 256) as u8;
+    s[at + 1] = (v / 65536 % 256) as u8;
+    s[at + 2] = (v / 256 % 256) as u8;
+    s[at + 3] = (v % 256) as u8;
+}
+
+// All of src, stored from place at on.
+pub fn copy(src: &[u8], dst: &mut [u8], at: usize)
+    requires { ⌜ at + length (now src) ≤ length (now dst) ⌝ }
+    ensures { λ _. ⌜ now (dst .exit) ≡ sets (now (dst .entry)) at (now (src .entry)) ⌝ }
+{
+    let n = bytes::copy(src, &mut dst[at..]);
+}
+
+pub fn clear(s: &mut [u8])
+    ensures { λ _. ⌜ now (s .exit) ≡ zeros (length (now (s .entry))) ⌝ }
+{
+    let mut i = 0;
+    while i < s.len() {
+        s[i] = 0;
+        i += 1;
+    }
+}
+
+fn both(ok: bool, b: u8) -> bool
+    ensures { λ r. ⌜ r ≡ (ok && eqb b 0) ⌝ }
+{
+    if b == 0 { ok } else { false }
+}
+
+// Every byte is looked at: a loop that left early would not be vectorised.
+pub fn all_zero(s: &[u8]) -> bool
+    ensures { λ r. ⌜ r ≡ allZero (now (s .entry)) ⌝ }
+{
+    let mut ok = true;
+    let mut i: usize = 0;
+    while i < s.len() {
+        ok = both(ok, s[i]);
+        i += 1;
+    }
+    ok
 }

@@ -1,0 +1,72 @@
+-- Zeros, stored and looked for. Assumes nothing.
+use Prim.Native.Nat.{ℕ, zero, suc, _+_, _≤_, _<_}
+use mathlib.Core.Path.{_≡_, refl, sym, ap, _∙_}
+use mathlib.Core.List.{List, [], _∷_, _++_}
+use mathlib.Core.Bool.{Bool, true, false, _&&_}
+use native.Mathlib.Omega.{arith}
+use native.Mathlib.Numerals.{add-one}
+use lib.Dec.{eqb}
+use lib.ListN.{length, take, getD, set, length-replicate, replicate-append-replicate}
+use lib.Seq.{take-suc, take-suc-set, take-all}
+use borrow.Author.Tests.{eqb-true}
+use Rattle.laws.proofs.Conds.{and-left, and-right}
+use Rattle.octets.specs.Zeros.{zeros, allZero}
+
+pub and-true : (a : Bool) → (a && true) ≡ a
+and-true true = refl
+and-true false = refl
+
+pub and-false : (a : Bool) → (a && false) ≡ false
+and-false true = refl
+and-false false = refl
+
+and-assoc : (a b c : Bool) → (a && (b && c)) ≡ ((a && b) && c)
+and-assoc true b c = refl
+and-assoc false b c = refl
+
+pub length-zeros : (n : ℕ) → length (zeros n) ≡ n
+unfolding zeros
+length-zeros n = length-replicate n 0
+
+pub zeros-append : (m n : ℕ) → zeros m ++ zeros n ≡ zeros (m + n)
+unfolding zeros
+zeros-append m n = replicate-append-replicate m n 0
+
+-- a loop that clears: nothing done, one byte more, all done
+pub clear-none : (l : List ℕ) → take 0 l ≡ zeros 0
+unfolding zeros
+clear-none l = refl
+
+pub clear-more : (l : List ℕ) (i : ℕ) → i < length l → take i l ≡ zeros i → take (i + 1) (set l i 0) ≡ zeros (i + 1)
+unfolding zeros
+clear-more l i h e = rw add-one (take-suc-set l i 0 h ∙ rw e (replicate-append-replicate i 1 0 ∙ rw add-one))
+
+pub clear-all : (l : List ℕ) (i n : ℕ) → length l ≡ n → i ≤ n → n ≤ i → take i l ≡ zeros i → l ≡ zeros n
+clear-all l i n e h g t =
+    let i-n : i ≡ n = omega arith in
+    sym (take-all i l (omega arith)) ∙ t ∙ ap zeros i-n
+
+pub all-zero-append : (s t : List ℕ) → allZero (s ++ t) ≡ (allZero s && allZero t)
+unfolding allZero
+all-zero-append [] t = refl
+all-zero-append (x ∷ s) t = ap (λ (b : Bool). eqb x 0 && b) (all-zero-append s t) ∙ and-assoc (eqb x 0) (allZero s) (allZero t)
+
+-- a scan, one byte more
+pub scan-more : (l : List ℕ) (i : ℕ) → i < length l → allZero (take (i + 1) l) ≡ (allZero (take i l) && eqb (getD l i 0) 0)
+unfolding allZero
+scan-more l i h =
+    rw (add-one, take-suc l i 0 h, all-zero-append) (ap (λ (b : Bool). allZero (take i l) && b) (and-true (eqb (getD l i 0) 0)))
+
+-- what allZero says: the bytes are zeros
+pub all-zero-zeros : (n : ℕ) → allZero (zeros n) ≡ true
+unfolding zeros allZero
+all-zero-zeros zero = refl
+all-zero-zeros (suc n) = all-zero-zeros n
+
+pub zeros-of-all : (l : List ℕ) → allZero l ≡ true → l ≡ zeros (length l)
+unfolding zeros allZero
+zeros-of-all [] e = refl
+zeros-of-all (x ∷ l) e =
+    let h : x ≡ 0 = eqb-true x 0 (and-left (eqb x 0) (allZero l) e) in
+    let t = zeros-of-all l (and-right (eqb x 0) (allZero l) e) in
+    ap (λ (y : ℕ). y ∷ l) h ∙ ap (λ (m : List ℕ). 0 ∷ m) t
