@@ -62,3 +62,7 @@ module _ {A : Type 0} where
       let r : length (drop i l) ≤ length l - i = omega (arith, length-drop i l) in
       rw (e, sets-eq vs l i h, take-length, take-all (length l - i) (drop i l) r, drop-of-length-le (drop i l) r, append-nil, drop-drop)
       (sym (append-assoc (take i l) vs (drop (i + length vs) l)))
+
+  -- vs in the place of as many elements from i on
+  pub sets-mid : (vs l : List A) (i n : ℕ) → length vs ≡ n → i + n ≤ length l → putMid i n l vs ≡ sets l i vs
+  sets-mid vs l i n e h = rw (← e, drop-drop, sets-eq vs l i (omega arith)) (sym (append-assoc (take i l) vs (drop (i + length vs) l)))

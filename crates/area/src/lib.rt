@@ -1,0 +1,87 @@
+// The lent area of undecided bytes: its check, and the clearing of a connection's part.
+ghost use mathlib.Core.Path.{_≡_};
+ghost use mathlib.Core.Bool.{cond};
+ghost use Prim.Native.Nat.{_+_, _≤_};
+ghost use lib.ListN.{length};
+ghost use Rattle.area.specs.Area.{partBytes, areaBytes, partAt, partSound, areaSound, partCleared, closedCleared};
+
+pub const CONNECTIONS: usize = 8;
+
+pub const PART: usize = 2049;
+
+pub const AREA: usize = 16392;
+
+// A connection's part has held undecided bytes first, and zeros after.
+fn part_sound(part: &[u8], held: u16) -> bool
+    requires { ⌜ length (now part) ≡ partBytes ⌝ }
+    ensures { λ r. ⌜ r ≡ partSound held (now (part .entry)) ⌝ }
+{
+    // 2,049 bytes always decide
+    let n = held as usize;
+    if frame::GREATEST_SIZE < held as u32 {
+        return false;
+    }
+    match frame::decide(&part[..n]) {
+        frame::Decision::Undecided => octets::all_zero(&part[n..]),
+        frame::Decision::Faulty(_, _) => false,
+        frame::Decision::Sound(_) => false,
+    }
+}
+
+fn parts_sound(area: &[u8], held: [u16; 8]) -> bool
+    requires { ⌜ length (now area) ≡ areaBytes ⌝ }
+    ensures { λ r. ⌜ r ≡ areaSound held (now (area .entry)) ⌝ }
+{
+    let mut n: usize = 0;
+    while n < CONNECTIONS {
+        let base = n * PART;
+        let end = base + PART;
+        if !part_sound(&area[base..end], held[n]) {
+            return false;
+        }
+        n += 1;
+    }
+    true
+}
+
+// Row 2 does not apply to the area.
+pub fn area_sound(area: &[u8], held: [u16; 8]) -> bool
+    ensures { λ r. ⌜ r ≡ areaSound held (now (area .entry)) ⌝ }
+{
+    if area.len() != AREA {
+        return false;
+    }
+    parts_sound(area, held)
+}
+
+// Connection n's part all zeros.
+pub fn clear_part(area: &mut [u8], n: usize)
+    requires { ⌜ partAt n + partBytes ≤ length (now area) ⌝ }
+    ensures { λ _. ⌜ now (area .exit) ≡ partCleared (now (area .entry)) n ⌝ }
+{
+    let base = n * PART;
+    let end = base + PART;
+    octets::clear(&mut area[base..end]);
+}
+
+fn clear_unless(area: &mut [u8], n: usize, live: bool)
+    requires { ⌜ partAt n + partBytes ≤ length (now area) ⌝ }
+    ensures { λ _. ⌜ now (area .exit) ≡ cond live (now (area .entry)) (partCleared (now (area .entry)) n) ⌝ }
+{
+    if live {
+        return;
+    }
+    clear_part(area, n);
+}
+
+// The part of each connection that is not open all zeros.
+pub fn clear_closed(area: &mut [u8], lives: [bool; 8])
+    requires { ⌜ length (now area) ≡ areaBytes ⌝ }
+    ensures { λ _. ⌜ now (area .exit) ≡ closedCleared lives (now (area .entry)) ⌝ }
+{
+    let mut n: usize = 0;
+    while n < CONNECTIONS {
+        clear_unless(area, n, lives[n]);
+        n += 1;
+    }
+}
