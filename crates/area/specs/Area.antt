@@ -49,3 +49,9 @@ clearedFrom n (live ∷ lives) area = clearedFrom (suc n) lives (cond live area 
 
 unfoldable pub closedCleared : List Bool → List ℕ → List ℕ
 closedCleared lives area = clearedFrom 0 lives area
+
+-- the count of each connection that is not open 0
+unfoldable pub heldKept : List Bool → List ℕ → List ℕ
+heldKept [] held = held
+heldKept (live ∷ lives) [] = []
+heldKept (live ∷ lives) (k ∷ held) = cond live k 0 ∷ heldKept lives held

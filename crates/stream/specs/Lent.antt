@@ -1,0 +1,27 @@
+-- How undecided bytes lie in the lent area and in the record's counts.
+use Prim.Native.Nat.{ℕ, zero, suc, _-_}
+use mathlib.Core.Bool.{Bool}
+use mathlib.Core.List.{List, [], _∷_, _++_}
+use lib.ListN.{length}
+use Rattle.octets.specs.Zeros.{zeros}
+use Rattle.area.specs.Area.{partBytes}
+use Rattle.stream.specs.Machine.{Held}
+
+-- "each holding that connection's undecided bytes first and zeros after"
+unfoldable pub partOf : List ℕ → List ℕ
+partOf x = x ++ zeros (partBytes - length x)
+
+-- the parts of the first n connections, one behind another
+unfoldable pub flat : Held → ℕ → List ℕ
+flat h zero = []
+flat h (suc n) = flat h n ++ partOf (h n)
+
+-- the counts of the first n connections
+unfoldable pub counted : Held → ℕ → List ℕ
+counted h zero = []
+counted h (suc n) = counted h n ++ (length (h n) ∷ [])
+
+-- of each of the first n connections, whether it passes the test
+unfoldable pub livesOf : (ℕ → Bool) → ℕ → List Bool
+livesOf t zero = []
+livesOf t (suc n) = livesOf t n ++ (t n ∷ [])

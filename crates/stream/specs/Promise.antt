@@ -1,0 +1,82 @@
+-- What the stream theorem says, and what it asks of a device.
+use Prim.Native.Nat.{ℕ, _≤_}
+use mathlib.Core.Path.{_≡_}
+use mathlib.Core.Bool.{Bool, true, false, not}
+use mathlib.Core.List.{List, [], _∷_, _++_}
+use lib.ListN.{length, take}
+use Rattle.frame.specs.Decide.{decide, taken, settled}
+use Rattle.stream.specs.Machine.{Call, deliver, ask, Whole, message, asked, Answer, more, refused, done, Held, put, rules, whole, step, run, heard, glue, answers}
+
+-- the last byte of m decides it
+pub record Decides (m : List ℕ) : Type 0 where
+  pub settles : settled (decide m) ≡ true
+  pub exactly : taken (decide m) ≡ length m
+
+module _ {R Out Ask Room : Type 0} (rule : R → Whole Ask Room → R × Out) (open? : R → ℕ → Bool) (admit : R → ℕ → Room → ℕ)
+  where
+    -- a whole call as the theorem hands it over: a message is admitted, and its last byte decides it
+    abbrev pub Apt : R → Whole Ask Room → Type 0
+    Apt r (message c m x) = (admit r c x ≡ 0) × Decides m
+    Apt r (asked a) = Unit {0}
+
+    -- each of them, at its place
+    unfoldable pub Apts : R → List (Whole Ask Room) → Type 0
+    Apts r [] = Unit {0}
+    Apts r (w ∷ ws) = Apt r w × Apts ((rule r w) .0) ws
+
+    -- an answer is right at its place: bytes wait only if they are undecided, a piece is refused only by its number,
+    -- and what is taken ends with the deciding byte
+    abbrev pub Right : R → Held → Call Ask Room → Answer Out → Type 0
+    Right r h (deliver c p x) more = (admit r c x ≡ 0) × (settled (decide (h c ++ p)) ≡ false)
+    Right r h (deliver c p x) (refused q) = (admit r c x ≡ q) × (q ≡ 0 → ⊥)
+    Right r h (deliver c p x) (done k o) = (admit r c x ≡ 0) × (k ≤ length p) × Decides (h c ++ take k p)
+    Right r h (ask a) more = ⊥
+    Right r h (ask a) (refused q) = ⊥
+    Right r h (ask a) (done k o) = Unit {0}
+
+    module _ (shut : Whole Ask Room → Out → ℕ → Bool) where
+      -- each of them, at its place: the device is the rules', the bytes are those that the host counts
+      unfoldable pub Told : R → Held → List (Call Ask Room × Answer Out) → Type 0
+      Told r h [] = Unit {0}
+      Told r h (e ∷ es) =
+          Right r h (e .0) (e .1) × Told ((rules rule r ((heard shut h (e .0) (e .1)) .0)) .0) ((heard shut h (e .0) (e .1)) .1) es
+
+      -- the laws asked of a device: Fine is its invariant, and an answer tells which connections are closed by it
+      pub record Laws (Fine : R → Type 0) : Type 0 where
+        pub keeps : (r : R) (w : Whole Ask Room) → Fine r → Apt r w → Fine ((rule r w) .0)
+        pub tells : (r : R) (w : Whole Ask Room) (n : ℕ) → Fine r → Apt r w → open? r n ≡ true
+            → open? ((rule r w) .0) n ≡ not (shut w ((rule r w) .1) n)
+        pub admits : (r : R) (c : ℕ) (x : Room) → Fine r → admit r c x ≡ 0 → open? r c ≡ true
+
+      -- the invariant of the endpoint over pieces: undecided bytes wait, and a closed connection has none
+      pub record Good (Fine : R → Type 0) (r : R) (h : Held) : Type 0 where
+        pub fine : Fine r
+        pub waiting : (n : ℕ) → settled (decide (h n)) ≡ false
+        pub empty : (n : ℕ) → open? r n ≡ false → h n ≡ []
+
+      -- of a run from r with h held that ends at s with the transcript t
+      pub record Streamed (Fine : R → Type 0) (r : R) (h : Held) (s : R × Held) (t : List (Call Ask Room × Answer Out)) : Type 0 where
+        -- the rules, over the whole calls that a host glues together from the transcript, end at the same device and give the same answers
+        pub same : rules rule r ((glue shut h t) .0) ≡ (s .0, answers t)
+        -- each message of them was admitted, and is decided by its last byte
+        pub apt : Apts r ((glue shut h t) .0)
+        -- each answer is right at its place
+        pub told : Told r h t
+        -- the bytes that are left are those that the host counts as not yet handed over
+        pub rest : s .1 ≡ (glue shut h t) .1
+        -- they are undecided, and a closed connection has none
+        pub good : Good Fine (s .0) (s .1)
+
+      -- what is a connection's own in the device, and what a closure does to it
+      module _ {Own : Type 0} (own : R → ℕ → Own) (nothing : Own) where
+        pub record Isolating (Fine : R → Type 0) : Type 0 where
+          pub gone : (r : R) (w : Whole Ask Room) (c : ℕ) → Fine r → Apt r w → shut w ((rule r w) .1) c ≡ true → own ((rule r w) .0) c ≡ nothing
+          pub kept : (r : R) (w : Whole Ask Room) (c n : ℕ) → Fine r → Apt r w → shut w ((rule r w) .1) c ≡ true → open? r n ≡ true
+              → shut w ((rule r w) .1) n ≡ false → own ((rule r w) .0) n ≡ own r n
+
+        -- of a whole call that closes connections: nothing of theirs is left, and every connection that stays open has what it had
+        pub record Closure (r : R) (h : Held) (w : Whole Ask Room) (s : R × Held) (o : Out) : Type 0 where
+          pub device-gone : (c : ℕ) → shut w o c ≡ true → own (s .0) c ≡ nothing
+          pub bytes-gone : (c : ℕ) → open? r c ≡ true → shut w o c ≡ true → s .1 c ≡ []
+          pub device-kept : (c n : ℕ) → shut w o c ≡ true → open? r n ≡ true → shut w o n ≡ false → own (s .0) n ≡ own r n
+          pub bytes-kept : (n : ℕ) → open? r n ≡ true → shut w o n ≡ false → s .1 n ≡ h n

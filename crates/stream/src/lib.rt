@@ -1,0 +1,1 @@
+// The stream theorem, over any device that keeps its laws: proofs/ alone.
