@@ -4,8 +4,8 @@ use mathlib.Core.Path.{_≡_, refl, sym, _∙_}
 use mathlib.Core.List.{List, [], _∷_, _++_, append-assoc, append-nil}
 use native.Mathlib.Omega.{arith}
 use native.Mathlib.Nat.{add-zero, add-suc, suc-add, not-suc-le-zero}
-use lib.ListN.{length, take, drop, getD, set, length-set, length-drop, drop-of-length-le}
-use lib.Seq.{sets, sets-eq, drop-drop, take-set-le, drop-set-lt, getD-set-same, getD-set-other, take-length, take-all}
+use lib.ListN.{length, take, drop, getD, set, length-set, length-drop, drop-of-length-le, take-append-drop}
+use lib.Seq.{sets, sets-eq, length-take-le, drop-drop, take-set-le, drop-set-lt, getD-set-same, getD-set-other, take-length, take-all}
 use borrow.Rule.Slice.PartMut.{putMid}
 
 module _ {A : Type 0} where
@@ -66,3 +66,11 @@ module _ {A : Type 0} where
   -- vs in the place of as many elements from i on
   pub sets-mid : (vs l : List A) (i n : ℕ) → length vs ≡ n → i + n ≤ length l → putMid i n l vs ≡ sets l i vs
   sets-mid vs l i n e h = rw (← e, drop-drop, sets-eq vs l i (omega arith)) (sym (append-assoc (take i l) vs (drop (i + length vs) l)))
+
+  -- a run of what is there already
+  pub sets-same : (l : List A) (i k : ℕ) → i + k ≤ length l → sets l i (take k (drop i l)) ≡ l
+  sets-same l i k h =
+      let m = take k (drop i l) in
+      let n : length m ≡ k = length-take-le k (drop i l) (rw length-drop (omega arith)) in
+      sets-eq m l i (omega arith)
+      ∙ rw (n, ← drop-drop, append-assoc, take-append-drop k (drop i l), take-append-drop i l)

@@ -1,0 +1,116 @@
+-- Entries that fill some data: the same with one more behind, and the first alone. Assumes nothing.
+use Prim.Native.Nat.{ℕ, zero, suc, _+_, _-_, _≤_, _<_}
+use mathlib.Core.Path.{_≡_, refl, sym, ap, _∙_}
+use mathlib.Core.List.{List, [], _∷_, _++_}
+use mathlib.Core.Bool.{cond, true, false, false≢true}
+use native.Mathlib.Omega.{arith}
+use native.Mathlib.Nat.{not-suc-le-zero}
+use lib.Dec.{ltb, eqb}
+use lib.ListN.{length, take, drop, getD, length-append, length-drop, List·getD-append}
+use lib.Seq.{getD-take, length-take-le, take-append-le, drop-append-le, take-length}
+use borrow.Author.Tests.{eq-eqb, ne-eqb, le-ltb, eqb-true}
+use Rattle.laws.proofs.Conds.{cond-right}
+use Rattle.laws.proofs.Parts.{nil-of}
+use Rattle.octets.specs.Numbers.{be32At}
+use Rattle.octets.proofs.Digits.{be32-append, be32-take}
+use Rattle.frame.specs.Entry.{leastEntry, countPlace, leastCount, countFits, entryFits, entrySize, entriesFill}
+use Rattle.frame.proofs.Entries.{EntryAt, entry-at, entries-first, least-holds}
+use Rattle.fields.specs.Place.{entriesFrom, entryBytes}
+use Rattle.writer.specs.Round.{entriesOf}
+
+-- the entry check, taken apart and put together
+fits-count : (k size count : ℕ) (part : List ℕ) → entryFits k size count part ≡ true → countFits (leastCount k) count (size - leastEntry k) ≡ true
+unfolding entryFits
+fits-count k size count part e =
+    let p = cond-right (ltb size (leastEntry k)) false _ true e false≢true in
+    cond-right (ltb (length part) (size - leastEntry k)) false _ true (p .1) false≢true .1
+
+fits-make : (k size count : ℕ) (part : List ℕ) → leastEntry k ≤ size → size - leastEntry k ≤ length part
+    → countFits (leastCount k) count (size - leastEntry k) ≡ true → entryFits k size count part ≡ true
+unfolding entryFits
+fits-make k size count part low high c =
+    simp (le-ltb size (leastEntry k) low, le-ltb (length part) (size - leastEntry k) high, c)
+
+-- bytes with the same size and count, and long enough for it, begin with an entry of the same size
+size-same : (k : ℕ) (t u : List ℕ) → EntryAt k t → be32At u 0 ≡ be32At t 0 → getD u (countPlace k) 0 ≡ getD t (countPlace k) 0
+    → be32At t 0 ≤ length u → entrySize k u ≡ be32At t 0
+unfolding entrySize
+size-same k t u w b g h =
+    let c = fits-count k (be32At t 0) (getD t (countPlace k) 0) (drop (leastEntry k) t) (w .fits) in
+    let f = fits-make k (be32At t 0) (getD t (countPlace k) 0) (drop (leastEntry k) u) (w .low) (omega (arith, length-drop (leastEntry k) u)) c in
+    simp (le-ltb (length u) (leastEntry k) (omega (arith, w .low)), b, g, f)
+
+module _ (k : ℕ) (t : List ℕ) (nz : entrySize k t ≡ 0 → ⊥) where
+  pub size-within : entrySize k t ≤ length t
+  size-within = let w = entry-at k t nz in omega (arith, w .size, w .high)
+
+  size-append : (e : List ℕ) → entrySize k (t ++ e) ≡ entrySize k t
+  size-append e =
+      let w = entry-at k t nz in
+      let l = least-holds k in
+      let low = w .low in
+      let high = w .high in
+      size-same k t (t ++ e) w (be32-append t 0 e (omega arith)) (List·getD-append t e 0 (countPlace k) (omega arith)) (omega (arith, length-append t e))
+      ∙ sym (w .size)
+
+  size-take : entrySize k (take (entrySize k t) t) ≡ entrySize k t
+  size-take =
+      let w = entry-at k t nz in
+      let l = least-holds k in
+      let low = w .low in
+      let high = w .high in
+      let z = w .size in
+      size-same k t (take (entrySize k t) t) w (be32-take t 0 (entrySize k t) (omega arith)) (getD-take (entrySize k t) t (countPlace k) 0 (omega arith)) (omega (arith, length-take-le (entrySize k t) t (omega arith)))
+      ∙ sym z
+
+  -- the first entry by itself is exactly one entry
+  pub one-alone : entriesFill 1 k (take (entrySize k t) t) ≡ true
+  unfolding entriesFill
+  one-alone =
+      let z = entrySize k t in
+      let l = length-take-le z t size-within in
+      rw (size-take) (simp (ne-eqb z 0 nz, eq-eqb (length (drop z (take z t))) 0 (omega (arith, length-drop z (take z t)))))
+
+-- exactly one entry: its size is its length
+pub one-size : (k : ℕ) (e : List ℕ) → entriesFill 1 k e ≡ true → entrySize k e ≡ length e
+unfolding entriesFill
+one-size k e f =
+    let p = entries-first 0 k e f in
+    omega (arith, size-within k e (p .0), eqb-true (length (drop (entrySize k e) e)) 0 (p .1), length-drop (entrySize k e) e)
+
+pub fill-append : (n k : ℕ) (t e : List ℕ) → entriesFill n k t ≡ true → entriesFill 1 k e ≡ true → entriesFill (suc n) k (t ++ e) ≡ true
+unfolding entriesFill
+fill-append zero k t e a b = rw (nil-of t (eqb-true (length t) 0 a)) b
+fill-append (suc n) k t e a b =
+    let p = entries-first n k t a in
+    let z = entrySize k t in
+    rw (size-append k t (p .0) e, ne-eqb z 0 (p .0), drop-append-le z t e (size-within k t (p .0))) (fill-append n k (drop z t) e (p .1) b)
+
+-- the first entry, and those after it
+first-bytes : (k : ℕ) (t : List ℕ) → entryBytes 0 k t ≡ take (entrySize k t) t
+unfolding entryBytes entriesFrom
+first-bytes k t = refl
+
+pub entries-append : (n k : ℕ) (t e : List ℕ) → entriesFill n k t ≡ true → entriesFill 1 k e ≡ true
+    → entriesOf (suc n) k (t ++ e) ≡ entriesOf n k t ++ (e ∷ [])
+unfolding entriesOf entriesFill
+entries-append zero k t e a b =
+    rw (nil-of t (eqb-true (length t) 0 a)) (ap (λ (x : List ℕ). x ∷ []) (first-bytes k e ∙ rw (one-size k e b) (take-length e)))
+entries-append (suc n) k t e a b =
+    let p = entries-first n k t a in
+    let z = entrySize k t in
+    let first : entryBytes 0 k (t ++ e) ≡ entryBytes 0 k t =
+        first-bytes k (t ++ e) ∙ rw (size-append k t (p .0) e) (take-append-le z t e (size-within k t (p .0))) ∙ sym (first-bytes k t) in
+    rw (first, size-append k t (p .0) e, drop-append-le z t e (size-within k t (p .0)), entries-append n k (drop z t) e (p .1) b)
+
+pub length-entries : (n k : ℕ) (t : List ℕ) → length (entriesOf n k t) ≡ n
+unfolding entriesOf
+length-entries zero k t = refl
+length-entries (suc n) k t = ap suc (length-entries n k (drop (entrySize k t) t))
+
+-- entry i of them is the one that reading finds
+pub entries-index : (i n k : ℕ) (t : List ℕ) → i < n → getD (entriesOf n k t) i [] ≡ entryBytes i k t
+unfolding entriesOf entryBytes entriesFrom
+entries-index i zero k t h = absurd (not-suc-le-zero h)
+entries-index zero (suc n) k t h = refl
+entries-index (suc i) (suc n) k t h = entries-index i n k (drop (entrySize k t) t) (omega arith)

@@ -1,0 +1,26 @@
+use native.Mathlib.Omega.{arith}
+use Rattle.octets.specs.Numbers.{bytes16}
+use Rattle.octets.proofs.Digits.{length-bytes16}
+use Rattle.frame.specs.Limits.{keepAlive}
+use Rattle.writer.proofs.Messages.{put-whole}
+use borrow.Author.Needs.{needs}
+use Rattle.writer.proofs.put_seconds.Statement.{statement}
+use Rattle.writer.proofs.put_seconds.Tie as tie
+
+put-head-requires : tie.Need-put-head-requires
+put-head-requires c κs = search needs
+
+put16-requires : tie.Need-put16-requires
+put16-requires c κs = search needs
+
+same-length : tie.Need-same-length
+same-length c = search needs
+
+returns : tie.Need-returns
+returns c =
+    let a = c .before .before .before .before .before .before .before .before .before .args in
+    let l = length-bytes16 (a .beat .0) in
+    rw (c .before .before .put16 .ensures, c .before .before .before .before .before .before .put-head .ensures) (put-whole keepAlive 1 _ (a .buf .now) (bytes16 (a .beat .0)) (omega arith) (omega arith))
+
+pub put-seconds-spec : {M : Type 1} → statement M
+put-seconds-spec = tie.close (tie.spec put-head-requires put16-requires same-length returns)

@@ -1,0 +1,4 @@
+pub mod Numbers
+pub mod Message
+pub mod Write
+pub mod Round

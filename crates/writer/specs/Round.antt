@@ -1,0 +1,79 @@
+-- The round trip: what the writer writes is read as it was given, and what was read is written again as it was.
+use Prim.Native.Nat.{ℕ, zero, suc, _≤_, _<_}
+use mathlib.Core.Path.{_≡_}
+use mathlib.Core.List.{List, [], _∷_, _++_}
+use mathlib.Core.Bool.{Bool, cond}
+use lib.Dec.{eqb}
+use lib.ListN.{length, getD, take, drop}
+use Rattle.octets.specs.Numbers.{Octets}
+use Rattle.frame.specs.Limits.{response, keepAlive}
+use Rattle.frame.specs.Header.{pduType, messageCount}
+use Rattle.frame.specs.Entry.{entrySize}
+use Rattle.frame.specs.Decide.{decide}
+use Rattle.frame.specs.declared.Decision.the-variants.{Sound}
+use Rattle.fields.specs.Place.{entryBytes, parametersOf}
+use Rattle.reader.specs.Numbers.{noEntry}
+use Rattle.reader.specs.Read.{dataOf, readOf}
+use Rattle.reader.specs.Entry.{fieldsOf, entryAt, entryOf, partOf}
+use Rattle.writer.specs.declared.Written.{Written}
+use Rattle.writer.specs.Numbers.{done, noRoom, badEntry, writtenNumbers, Outcome, outcome}
+use Rattle.writer.specs.Write.{leastRoom, refused, written, startOf, appendOf, keepAliveOf}
+
+-- the call was not refused
+unfoldable pub wrote : Outcome → Bool
+wrote o = eqb (getD (o .answer) 0 0) done
+
+-- appends, one entry after another, up to the first refusal
+unfoldable pub appendAll : Outcome → ℕ → List (List ℕ) → Outcome
+appendAll o kind [] = o
+appendAll o kind (e ∷ es) = cond (wrote o) (appendAll (appendOf (o .buffer) kind e) kind es) o
+
+-- a start with the first entry and an append of each other; no message is without entries
+unfoldable pub writeAll : List ℕ → ℕ → List (List ℕ) → Outcome
+writeAll buf kind [] = refused badEntry buf
+writeAll buf kind (e ∷ es) = appendAll (startOf buf kind e) kind es
+
+-- count entries of that type, one behind another
+unfoldable pub entriesOf : ℕ → ℕ → List ℕ → List (List ℕ)
+entriesOf zero kind t = []
+entriesOf (suc n) kind t = entryBytes 0 kind t ∷ entriesOf n kind (drop (entrySize kind t) t)
+
+-- the entries of the sound message of n bytes at the front of s
+abbrev pub entriesIn : List ℕ → ℕ → List (List ℕ)
+entriesIn s n = entriesOf (messageCount s) (pduType s) (dataOf s n)
+
+-- the message at the front of s is read as one of n bytes with that type, count, entries and parts
+pub record ReadsAs (s : List ℕ) (n kind : ℕ) (es : List (List ℕ)) : Type 0 where
+  pub message : readOf s ≡ 0 ∷ n ∷ kind ∷ length es ∷ []
+  pub bytes : (i : ℕ) → i < length es → entryAt s n i ≡ getD es i []
+  pub entry : (i : ℕ) → i < length es → entryOf s i ≡ fieldsOf kind (getD es i [])
+  pub part : (i : ℕ) → i < length es → partOf s i ≡ parametersOf kind (getD es i [])
+  pub none : (i : ℕ) → length es ≤ i → entryOf s i ≡ noEntry ∷ []
+
+-- what start, append (any number of times) and keep-alive write is read as it was given
+pub record ReadAfterWrite : Type 0 where
+  pub start : (buf : List ℕ) (kind : ℕ) (e : List ℕ) (n : ℕ)
+      → startOf buf kind e .answer ≡ done ∷ n ∷ [] → ReadsAs (startOf buf kind e .buffer) n kind (e ∷ [])
+  pub append : (buf : List ℕ) (m type : ℕ) (es : List (List ℕ)) (kind : ℕ) (e : List ℕ) (n : ℕ) → ReadsAs buf m type es
+      → appendOf buf kind e .answer ≡ done ∷ n ∷ [] → ReadsAs (appendOf buf kind e .buffer) n type (es ++ (e ∷ []))
+  pub all : (buf : List ℕ) (kind : ℕ) (es : List (List ℕ)) (n : ℕ)
+      → writeAll buf kind es .answer ≡ done ∷ n ∷ [] → ReadsAs (writeAll buf kind es .buffer) n kind es
+  pub beat : (buf : List ℕ) (form value n : ℕ) → value < 4294967296
+      → keepAliveOf buf form value .answer ≡ done ∷ n ∷ []
+      → readOf (keepAliveOf buf form value .buffer) ≡ 0 ∷ n ∷ keepAlive ∷ 1 ∷ form ∷ value ∷ []
+
+-- what was read is written again as the same bytes, into any buffer that has room
+pub record WriteAfterRead : Type 0 where
+  pub reads : (s : List ℕ) (n : ℕ) → decide s ≡ Sound n → pduType s ≤ response → ReadsAs s n (pduType s) (entriesIn s n)
+  pub entries : (s buf : List ℕ) (n : ℕ) → Octets s → leastRoom ≤ length buf → decide s ≡ Sound n → pduType s ≤ response
+      → writeAll buf (pduType s) (entriesIn s n) ≡ written (take n s) buf
+  pub beat : (s buf : List ℕ) (n form value : ℕ) → Octets s → leastRoom ≤ length buf
+      → readOf s ≡ 0 ∷ n ∷ keepAlive ∷ 1 ∷ form ∷ value ∷ []
+      → keepAliveOf buf form value ≡ written (take n s) buf
+
+-- the numbers of an answer tell it from every other, so that two results which a promise allows are equal
+pub record OneResult : Type 0 where
+  pub numbers : (a b : Written) → writtenNumbers a ≡ writtenNumbers b → a ≡ b
+  pub results : (o : Outcome) (a b : Written) (s t : List ℕ) → outcome a s ≡ o → outcome b t ≡ o → (a ≡ b) × (s ≡ t)
+  -- 2,049 bytes always decide: append refuses by 4 only where the buffer is under 2,049
+  pub room : (buf : List ℕ) (kind : ℕ) (e : List ℕ) → appendOf buf kind e .answer ≡ noRoom ∷ [] → length buf < leastRoom

@@ -1,0 +1,144 @@
+// The writer of whole messages: start with one entry, append an entry, write a keep-alive.
+ghost use mathlib.Core.Path.{_≡_};
+ghost use mathlib.Core.List.{_++_};
+ghost use Prim.Native.Nat.{_+_, _<_, _≤_};
+ghost use lib.ListN.{length};
+ghost use lib.Seq.{sets};
+ghost use Rattle.octets.specs.Numbers.{be16At, bytes16, bytes32};
+ghost use Rattle.frame.specs.Limits.{headerEnd, leastSize, greatestSize, keepAlive};
+ghost use Rattle.frame.specs.Header.{messageCount};
+ghost use Rattle.frame.specs.Decide.{decide};
+ghost use Rattle.frame.specs.declared.Decision.the-variants.{Sound};
+ghost use Rattle.reader.specs.Read.{dataOf};
+ghost use Rattle.writer.specs.Numbers.{outcome};
+ghost use Rattle.writer.specs.Message.{sizeOf, headBytes, message, atFront};
+ghost use Rattle.writer.specs.Write.{leastRoom, greatestSeconds, startOf, appendSound, appendOf, keepAliveOf};
+
+// Room for the longest message.
+pub const ROOM: usize = 2049;
+
+pub const GREATEST_SECONDS: u32 = 65535;
+
+pub enum Written {
+    Length(usize),
+    NoRoom,
+    Fault(u8),
+    TooLong,
+    BadEntry,
+}
+
+fn put_head(buf: &mut [u8], kind: u8, count: u16, size: u32)
+    requires { ⌜ headerEnd ≤ length (now buf) ⌝ }
+    ensures { λ _. ⌜ now (buf .exit) ≡ sets (now (buf .entry)) 0 (headBytes kind count size) ⌝ }
+{
+    buf[0] = frame::SYNC;
+    octets::put16(buf, 1, frame::VERSION);
+    octets::put32(buf, 3, size);
+    buf[7] = kind;
+    octets::put16(buf, 8, count);
+}
+
+// The message of one entry.
+fn put_message(buf: &mut [u8], kind: u8, e: &[u8])
+    requires { ⌜ (sizeOf (now e) ≤ greatestSize) × (leastRoom ≤ length (now buf)) ⌝ }
+    ensures { λ _. ⌜ now (buf .exit) ≡ atFront (message kind 1 (now (e .entry))) (now (buf .entry)) ⌝ }
+{
+    put_head(buf, kind, 1, (e.len() + 9) as u32);
+    octets::copy(e, buf, frame::HEADER_END);
+}
+
+// Starts a message with one entry.
+pub fn start(buf: &mut [u8], kind: u8, e: &[u8]) -> Written
+    ensures { λ r. ⌜ outcome r (now (buf .exit)) ≡ startOf (now (buf .entry)) kind (now (e .entry)) ⌝ }
+{
+    if buf.len() < ROOM {
+        return Written::NoRoom;
+    }
+    if !frame::well_formed(kind, e) {
+        return Written::BadEntry;
+    }
+    if ROOM - frame::HEADER_END < e.len() {
+        return Written::TooLong;
+    }
+    put_message(buf, kind, e);
+    Written::Length(e.len() + frame::HEADER_END)
+}
+
+// The message of n bytes, with one entry more: only its header and the bytes behind it are written.
+fn put_more(buf: &mut [u8], n: usize, kind: u8, e: &[u8])
+    requires { ⌜ (headerEnd ≤ n) × (n + length (now e) ≤ leastRoom) × (leastRoom ≤ length (now buf)) × (messageCount (now buf) < 65535) ⌝ }
+    ensures { λ _. ⌜ now (buf .exit) ≡ atFront (message kind (messageCount (now (buf .entry)) + 1) (dataOf (now (buf .entry)) n ++ now (e .entry))) (now (buf .entry)) ⌝ }
+{
+    let count = octets::be16(&buf[0..], 8);
+    put_head(buf, kind, count + 1, (n + e.len() - 1) as u32);
+    octets::copy(e, buf, n);
+}
+
+fn append_sound(buf: &mut [u8], n: usize, kind: u8, e: &[u8]) -> Written
+    requires { ⌜ (leastRoom ≤ length (now buf)) × (decide (now buf) ≡ Sound n) ⌝ }
+    ensures { λ r. ⌜ outcome r (now (buf .exit)) ≡ appendSound n (now (buf .entry)) kind (now (e .entry)) ⌝ }
+{
+    if kind != buf[7] {
+        return Written::BadEntry;
+    }
+    if !frame::well_formed(kind, e) {
+        return Written::BadEntry;
+    }
+    if ROOM - n < e.len() {
+        return Written::TooLong;
+    }
+    put_more(buf, n, kind, e);
+    Written::Length(n + e.len())
+}
+
+// Appends an entry to the sound message at the buffer's front.
+pub fn append(buf: &mut [u8], kind: u8, e: &[u8]) -> Written
+    ensures { λ r. ⌜ outcome r (now (buf .exit)) ≡ appendOf (now (buf .entry)) kind (now (e .entry)) ⌝ }
+{
+    if buf.len() < ROOM {
+        return Written::NoRoom;
+    }
+    match frame::decide(&buf[0..]) {
+        // 2,049 bytes always decide
+        frame::Decision::Undecided => Written::NoRoom,
+        frame::Decision::Faulty(f, _) => Written::Fault(f),
+        frame::Decision::Sound(n) => append_sound(buf, n, kind, e),
+    }
+}
+
+fn put_seconds(buf: &mut [u8], beat: heartbeat::Seconds)
+    requires { ⌜ leastRoom ≤ length (now buf) ⌝ }
+    ensures { λ _. ⌜ now (buf .exit) ≡ atFront (message keepAlive 1 (bytes16 (beat .0))) (now (buf .entry)) ⌝ }
+{
+    put_head(buf, frame::KEEP_ALIVE, 1, 11);
+    octets::put16(buf, frame::HEADER_END, beat.0);
+}
+
+fn put_milliseconds(buf: &mut [u8], beat: heartbeat::Milliseconds)
+    requires { ⌜ leastRoom ≤ length (now buf) ⌝ }
+    ensures { λ _. ⌜ now (buf .exit) ≡ atFront (message keepAlive 1 (bytes32 (beat .0))) (now (buf .entry)) ⌝ }
+{
+    put_head(buf, frame::KEEP_ALIVE, 1, 13);
+    octets::put32(buf, frame::HEADER_END, beat.0);
+}
+
+// Writes a keep-alive from a form and a value in that form's unit.
+pub fn keep_alive(buf: &mut [u8], form: u8, value: u32) -> Written
+    ensures { λ r. ⌜ outcome r (now (buf .exit)) ≡ keepAliveOf (now (buf .entry)) form value ⌝ }
+{
+    if buf.len() < ROOM {
+        return Written::NoRoom;
+    }
+    if form == heartbeat::MILLISECONDS_FORM {
+        put_milliseconds(buf, heartbeat::Milliseconds(value));
+        return Written::Length(14);
+    }
+    if form != heartbeat::SECONDS_FORM {
+        return Written::BadEntry;
+    }
+    if GREATEST_SECONDS < value {
+        return Written::BadEntry;
+    }
+    put_seconds(buf, heartbeat::Seconds(value as u16));
+    Written::Length(12)
+}
