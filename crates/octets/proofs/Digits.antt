@@ -1,5 +1,5 @@
 -- Numbers of the wire in parts of a list, read back after a store, and written again as they were read. Assumes nothing.
-use Prim.Native.Nat.{ℕ, suc, _+_, _*_, _/_, _%_, _≤_, _<_}
+use Prim.Native.Nat.{ℕ, zero, suc, suc, _+_, _*_, _/_, _%_, _≤_, _<_}
 use mathlib.Core.Path.{_≡_, refl, sym, _∙_}
 use mathlib.Core.List.{List, [], _∷_, _++_}
 use native.Mathlib.Omega.{arith}
@@ -118,6 +118,10 @@ four-at s at h =
     let a : drop at s ≡ getD s at 0 ∷ drop (at + 1) s = rw add-zero at (byte-at s at 0 (omega arith)) in
     rw (a, byte-at s at 1 (omega arith), byte-at s at 2 (omega arith), byte-at s at 3 (omega arith))
 
+pub be16-small : (s : List ℕ) (at : ℕ) → Octets s → be16At s at < 65536
+unfolding be16At
+be16-small s at o = omega (arith, o at, o (at + 1))
+
 -- write after read
 pub bytes16-be16 : (s : List ℕ) (at : ℕ) → Octets s → at + 2 ≤ length s → bytes16 (be16At s at) ≡ take 2 (drop at s)
 unfolding bytes16 be16At
@@ -142,3 +146,13 @@ bytes32-be32 s at o h =
         let r : n / 256 % 256 ≡ c = omega arith in
         let t : n % 256 ≡ d = omega arith in
         rw (p, q, r, t)
+
+-- parts of bytes are bytes
+pub octets-drop : (n : ℕ) (s : List ℕ) → Octets s → Octets (drop n s)
+octets-drop n s o i = rw getD-drop (o (n + i))
+
+pub octets-take : (n : ℕ) (s : List ℕ) → Octets s → Octets (take n s)
+octets-take zero s o i = omega arith
+octets-take (suc n) [] o i = omega arith
+octets-take (suc n) (x ∷ s) o zero = o 0
+octets-take (suc n) (x ∷ s) o (suc i) = octets-take n s (λ j. o (suc j)) i

@@ -13,12 +13,13 @@ use Rattle.heartbeat.specs.Beat.{secondsForm, millisecondsForm}
 use Rattle.frame.specs.Limits.{headerEnd, greatestSize, response, keepAlive}
 use Rattle.frame.specs.Header.{pduType, messageCount}
 use Rattle.frame.specs.Entry.{entriesFill, wellFormed}
-use Rattle.frame.specs.Decide.{dataSound, decide}
+use Rattle.frame.specs.Decide.{decide}
 use Rattle.frame.specs.declared.Decision.{Decision}
 use Rattle.frame.specs.declared.Decision.the-variants.{Undecided, Faulty, Sound}
 use Rattle.writer.specs.declared.Written.the-variants.{Length, NoRoom, Fault, TooLong, BadEntry}
 use Rattle.writer.specs.Numbers.{outcome, writtenNumbers}
 use Rattle.reader.specs.Read.{dataOf}
+use Rattle.reader.proofs.Sounds.{entries-data}
 use Rattle.writer.specs.Message.{sizeOf, message, atFront}
 use Rattle.writer.specs.Write.{leastRoom, greatestSeconds, refused, written, offered, startOf, appendSound, appendBy, appendOf, beatFits, beatBytes, keepAliveOf}
 use Rattle.frame.proofs.Entries.{entries-few}
@@ -44,8 +45,7 @@ well-kind kind e w =
 -- a sound message of entries has few of them
 pub sound-entries : (s : List ℕ) (n : ℕ) → decide s ≡ Sound n → pduType s ≤ response
     → entriesFill (messageCount s) (pduType s) (dataOf s n) ≡ true
-unfolding dataSound
-sound-entries s n e k = rw (ne-eqb (pduType s) keepAlive (λ q. omega arith)) at (sound-at s n e .body)
+sound-entries s n e k = entries-data s n (sound-at s n e) (λ q. omega arith)
 
 pub sound-few : (s : List ℕ) (n : ℕ) → decide s ≡ Sound n → pduType s ≤ response → messageCount s < 65535
 sound-few s n e k =
@@ -149,7 +149,7 @@ module _ (buf : List ℕ) (form value : ℕ) where
     unfolding keepAliveOf refused writtenNumbers
     beat-bad b = simp (le-ltb (length buf) leastRoom room, b)
 
-    beat-good : beatFits form value ≡ true → written (message keepAlive 1 (beatBytes form value)) buf ≡ keepAliveOf buf form value
+    pub beat-good : beatFits form value ≡ true → written (message keepAlive 1 (beatBytes form value)) buf ≡ keepAliveOf buf form value
     unfolding keepAliveOf
     beat-good b = simp (le-ltb (length buf) leastRoom room, b)
 

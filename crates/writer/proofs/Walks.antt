@@ -1,11 +1,11 @@
 -- Entries that fill some data: the same with one more behind, and the first alone. Assumes nothing.
-use Prim.Native.Nat.{ℕ, zero, suc, _+_, _-_, _≤_, _<_}
+use Prim.Native.Nat.{ℕ, zero, suc, _-_, _≤_, _<_}
 use mathlib.Core.Path.{_≡_, refl, sym, ap, _∙_}
 use mathlib.Core.List.{List, [], _∷_, _++_}
-use mathlib.Core.Bool.{cond, true, false, false≢true}
+use mathlib.Core.Bool.{true, false, false≢true}
 use native.Mathlib.Omega.{arith}
 use native.Mathlib.Nat.{not-suc-le-zero}
-use lib.Dec.{ltb, eqb}
+use lib.Dec.{ltb}
 use lib.ListN.{length, take, drop, getD, length-append, length-drop, List·getD-append}
 use lib.Seq.{getD-take, length-take-le, take-append-le, drop-append-le, take-length}
 use borrow.Author.Tests.{eq-eqb, ne-eqb, le-ltb, eqb-true}
@@ -100,7 +100,7 @@ entries-append (suc n) k t e a b =
     let p = entries-first n k t a in
     let z = entrySize k t in
     let first : entryBytes 0 k (t ++ e) ≡ entryBytes 0 k t =
-        first-bytes k (t ++ e) ∙ rw (size-append k t (p .0) e) (take-append-le z t e (size-within k t (p .0))) ∙ sym (first-bytes k t) in
+    first-bytes k (t ++ e) ∙ rw (size-append k t (p .0) e) (take-append-le z t e (size-within k t (p .0))) ∙ sym (first-bytes k t) in
     rw (first, size-append k t (p .0) e, drop-append-le z t e (size-within k t (p .0)), entries-append n k (drop z t) e (p .1) b)
 
 pub length-entries : (n k : ℕ) (t : List ℕ) → length (entriesOf n k t) ≡ n

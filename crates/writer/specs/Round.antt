@@ -2,8 +2,6 @@
 use Prim.Native.Nat.{ℕ, zero, suc, _≤_, _<_}
 use mathlib.Core.Path.{_≡_}
 use mathlib.Core.List.{List, [], _∷_, _++_}
-use mathlib.Core.Bool.{Bool, cond}
-use lib.Dec.{eqb}
 use lib.ListN.{length, getD, take, drop}
 use Rattle.octets.specs.Numbers.{Octets}
 use Rattle.frame.specs.Limits.{response, keepAlive}
@@ -16,22 +14,15 @@ use Rattle.reader.specs.Numbers.{noEntry}
 use Rattle.reader.specs.Read.{dataOf, readOf}
 use Rattle.reader.specs.Entry.{fieldsOf, entryAt, entryOf, partOf}
 use Rattle.writer.specs.declared.Written.{Written}
-use Rattle.writer.specs.Numbers.{done, noRoom, badEntry, writtenNumbers, Outcome, outcome}
-use Rattle.writer.specs.Write.{leastRoom, refused, written, startOf, appendOf, keepAliveOf}
+use Rattle.writer.specs.Numbers.{done, noRoom, writtenNumbers, Outcome, outcome}
+use Rattle.writer.specs.Message.{atFront}
+use Rattle.writer.specs.Write.{leastRoom, written, startOf, appendOf, keepAliveOf}
 
--- the call was not refused
-unfoldable pub wrote : Outcome → Bool
-wrote o = eqb (getD (o .answer) 0 0) done
-
--- appends, one entry after another, up to the first refusal
-unfoldable pub appendAll : Outcome → ℕ → List (List ℕ) → Outcome
-appendAll o kind [] = o
-appendAll o kind (e ∷ es) = cond (wrote o) (appendAll (appendOf (o .buffer) kind e) kind es) o
-
--- a start with the first entry and an append of each other; no message is without entries
-unfoldable pub writeAll : List ℕ → ℕ → List (List ℕ) → Outcome
-writeAll buf kind [] = refused badEntry buf
-writeAll buf kind (e ∷ es) = appendAll (startOf buf kind e) kind es
+-- a start and appends into buf, none refused, with the entries es: the last answers n, and leaves the buffer after
+pub data Made (buf : List ℕ) (kind : ℕ) : List (List ℕ) → ℕ → List ℕ → Type 0 where
+  started : (e : List ℕ) (n : ℕ) → startOf buf kind e .answer ≡ done ∷ n ∷ [] → Made buf kind (e ∷ []) n (startOf buf kind e .buffer)
+  appended : (es : List (List ℕ)) (m : ℕ) (before e : List ℕ) (n : ℕ) → Made buf kind es m before
+      → appendOf before kind e .answer ≡ done ∷ n ∷ [] → Made buf kind (es ++ (e ∷ [])) n (appendOf before kind e .buffer)
 
 -- count entries of that type, one behind another
 unfoldable pub entriesOf : ℕ → ℕ → List ℕ → List (List ℕ)
@@ -56,8 +47,7 @@ pub record ReadAfterWrite : Type 0 where
       → startOf buf kind e .answer ≡ done ∷ n ∷ [] → ReadsAs (startOf buf kind e .buffer) n kind (e ∷ [])
   pub append : (buf : List ℕ) (m type : ℕ) (es : List (List ℕ)) (kind : ℕ) (e : List ℕ) (n : ℕ) → ReadsAs buf m type es
       → appendOf buf kind e .answer ≡ done ∷ n ∷ [] → ReadsAs (appendOf buf kind e .buffer) n type (es ++ (e ∷ []))
-  pub all : (buf : List ℕ) (kind : ℕ) (es : List (List ℕ)) (n : ℕ)
-      → writeAll buf kind es .answer ≡ done ∷ n ∷ [] → ReadsAs (writeAll buf kind es .buffer) n kind es
+  pub all : (buf : List ℕ) (kind : ℕ) (es : List (List ℕ)) (n : ℕ) (after : List ℕ) → Made buf kind es n after → ReadsAs after n kind es
   pub beat : (buf : List ℕ) (form value n : ℕ) → value < 4294967296
       → keepAliveOf buf form value .answer ≡ done ∷ n ∷ []
       → readOf (keepAliveOf buf form value .buffer) ≡ 0 ∷ n ∷ keepAlive ∷ 1 ∷ form ∷ value ∷ []
@@ -66,7 +56,7 @@ pub record ReadAfterWrite : Type 0 where
 pub record WriteAfterRead : Type 0 where
   pub reads : (s : List ℕ) (n : ℕ) → decide s ≡ Sound n → pduType s ≤ response → ReadsAs s n (pduType s) (entriesIn s n)
   pub entries : (s buf : List ℕ) (n : ℕ) → Octets s → leastRoom ≤ length buf → decide s ≡ Sound n → pduType s ≤ response
-      → writeAll buf (pduType s) (entriesIn s n) ≡ written (take n s) buf
+      → Made buf (pduType s) (entriesIn s n) n (atFront (take n s) buf)
   pub beat : (s buf : List ℕ) (n form value : ℕ) → Octets s → leastRoom ≤ length buf
       → readOf s ≡ 0 ∷ n ∷ keepAlive ∷ 1 ∷ form ∷ value ∷ []
       → keepAliveOf buf form value ≡ written (take n s) buf

@@ -12,12 +12,17 @@ ghost use Rattle.frame.specs.declared.Decision.the-variants.{Sound};
 ghost use Rattle.reader.specs.Read.{dataOf};
 ghost use Rattle.writer.specs.Numbers.{outcome};
 ghost use Rattle.writer.specs.Message.{sizeOf, headBytes, message, atFront};
+ghost use Rattle.writer.specs.Round.{ReadAfterWrite, WriteAfterRead, OneResult};
 ghost use Rattle.writer.specs.Write.{leastRoom, greatestSeconds, startOf, appendSound, appendOf, keepAliveOf};
 
 // Room for the longest message.
 pub const ROOM: usize = 2049;
 
 pub const GREATEST_SECONDS: u32 = 65535;
+
+const SECONDS_LENGTH: usize = frame::HEADER_END + frame::SECONDS_BYTES;
+
+const MILLISECONDS_LENGTH: usize = frame::HEADER_END + frame::MILLISECONDS_BYTES;
 
 pub enum Written {
     Length(usize),
@@ -43,7 +48,7 @@ fn put_message(buf: &mut [u8], kind: u8, e: &[u8])
     requires { ⌜ (sizeOf (now e) ≤ greatestSize) × (leastRoom ≤ length (now buf)) ⌝ }
     ensures { λ _. ⌜ now (buf .exit) ≡ atFront (message kind 1 (now (e .entry))) (now (buf .entry)) ⌝ }
 {
-    put_head(buf, kind, 1, (e.len() + 9) as u32);
+    put_head(buf, kind, 1, e.len() as u32 + frame::LEAST_SIZE);
     octets::copy(e, buf, frame::HEADER_END);
 }
 
@@ -110,7 +115,12 @@ fn put_seconds(buf: &mut [u8], beat: heartbeat::Seconds)
     requires { ⌜ leastRoom ≤ length (now buf) ⌝ }
     ensures { λ _. ⌜ now (buf .exit) ≡ atFront (message keepAlive 1 (bytes16 (beat .0))) (now (buf .entry)) ⌝ }
 {
-    put_head(buf, frame::KEEP_ALIVE, 1, 11);
+    put_head(
+        buf,
+        frame::KEEP_ALIVE,
+        1,
+        frame::SECONDS_BYTES as u32 + frame::LEAST_SIZE,
+    );
     octets::put16(buf, frame::HEADER_END, beat.0);
 }
 
@@ -118,7 +128,12 @@ fn put_milliseconds(buf: &mut [u8], beat: heartbeat::Milliseconds)
     requires { ⌜ leastRoom ≤ length (now buf) ⌝ }
     ensures { λ _. ⌜ now (buf .exit) ≡ atFront (message keepAlive 1 (bytes32 (beat .0))) (now (buf .entry)) ⌝ }
 {
-    put_head(buf, frame::KEEP_ALIVE, 1, 13);
+    put_head(
+        buf,
+        frame::KEEP_ALIVE,
+        1,
+        frame::MILLISECONDS_BYTES as u32 + frame::LEAST_SIZE,
+    );
     octets::put32(buf, frame::HEADER_END, beat.0);
 }
 
@@ -131,7 +146,7 @@ pub fn keep_alive(buf: &mut [u8], form: u8, value: u32) -> Written
     }
     if form == heartbeat::MILLISECONDS_FORM {
         put_milliseconds(buf, heartbeat::Milliseconds(value));
-        return Written::Length(14);
+        return Written::Length(MILLISECONDS_LENGTH);
     }
     if form != heartbeat::SECONDS_FORM {
         return Written::BadEntry;
@@ -140,5 +155,20 @@ pub fn keep_alive(buf: &mut [u8], form: u8, value: u32) -> Written
         return Written::BadEntry;
     }
     put_seconds(buf, heartbeat::Seconds(value as u16));
-    Written::Length(12)
+    Written::Length(SECONDS_LENGTH)
 }
+
+// What start, append and keep_alive write is read as it was given.
+pub fn read_after_write()
+    ensures { λ r. ⌜ ReadAfterWrite ⌝ }
+{}
+
+// Every sound message, written again from what was read, is the same bytes.
+pub fn write_after_read()
+    ensures { λ r. ⌜ WriteAfterRead ⌝ }
+{}
+
+// Two results that a promise of the writer allows are equal.
+pub fn one_result()
+    ensures { λ r. ⌜ OneResult ⌝ }
+{}

@@ -5,11 +5,11 @@ use borrow.Author.Needs.{needs}
 use Rattle.writer.proofs.put_message.Statement.{statement}
 use Rattle.writer.proofs.put_message.Tie as tie
 
-add-put-head : tie.Need-add-put-head
-add-put-head c = search needs
-
 cast-put-head : tie.Need-cast-put-head
 cast-put-head c = search needs
+
+add-put-head : tie.Need-add-put-head
+add-put-head c = search needs
 
 put-head-requires : tie.Need-put-head-requires
 put-head-requires c κs = search needs
@@ -28,4 +28,4 @@ returns c =
 pub put-message-spec : {M : Type 1} → statement M
 put-message-spec =
     tie.close
-    (tie.spec add-put-head cast-put-head put-head-requires copy-requires same-length returns)
+    (tie.spec cast-put-head add-put-head put-head-requires copy-requires same-length returns)

@@ -1,0 +1,84 @@
+-- The theorems of the writer, put together. Assumes nothing.
+use Prim.Native.Nat.{ℕ, _+_, _<_}
+use mathlib.Core.Path.{_≡_, refl, sym, ap, _∙_}
+use mathlib.Core.List.{List, [], _∷_, _++_}
+use mathlib.Core.Bool.{Bool, cond, true, false, _&&_}
+use native.Mathlib.Omega.{arith}
+use lib.Dec.{ltb, eqb}
+use lib.ListN.{length, getD}
+use borrow.Author.Tests.{ltb-true}
+use Rattle.laws.proofs.Inverse.{undone-tells}
+use Rattle.frame.specs.Limits.{greatestSize}
+use Rattle.frame.specs.Header.{pduType, messageCount}
+use Rattle.frame.specs.Entry.{wellFormed}
+use Rattle.frame.specs.Decide.{decide}
+use Rattle.frame.specs.declared.Decision.{Decision}
+use Rattle.frame.specs.declared.Decision.the-variants.{Undecided, Faulty, Sound}
+use Rattle.frame.proofs.Ways.{deciding}
+use Rattle.reader.specs.Numbers.{fault}
+use Rattle.reader.specs.Read.{dataOf}
+use Rattle.writer.specs.declared.Written.{Written}
+use Rattle.writer.specs.declared.Written.the-variants.{Length, NoRoom, Fault, TooLong, BadEntry}
+use Rattle.writer.specs.Numbers.{done, noRoom, tooLong, badEntry, writtenNumbers, Outcome, outcome}
+use Rattle.writer.specs.Message.{sizeOf, message}
+use Rattle.writer.specs.Write.{leastRoom, refused, written, offered, appendSound, appendBy, appendOf}
+use Rattle.writer.specs.Round.{ReadAfterWrite, WriteAfterRead, OneResult}
+use Rattle.writer.proofs.Readings.{start-reads, append-reads, made-reads, beat-reads, sound-reads}
+use Rattle.writer.proofs.Again.{entries-again, keep-again}
+
+pub read-after-write : ReadAfterWrite
+read-after-write =
+    record { start = start-reads; append = append-reads; all = λ buf kind es n after. made-reads; beat = beat-reads }
+
+pub write-after-read : WriteAfterRead
+write-after-read = record { reads = sound-reads; entries = entries-again; beat = keep-again }
+
+-- an answer made again from its numbers
+writtenBack : List ℕ → Written
+writtenBack l =
+    cond (eqb (getD l 0 0) done) (Length (getD l 1 0))
+    (cond (eqb (getD l 0 0) noRoom) NoRoom
+    (cond (eqb (getD l 0 0) fault) (Fault (getD l 1 0)) (cond (eqb (getD l 0 0) tooLong) TooLong BadEntry)))
+
+written-back : (r : Written) → writtenBack (writtenNumbers r) ≡ r
+unfolding writtenBack writtenNumbers
+written-back (Length n) = refl
+written-back NoRoom = refl
+written-back (Fault f) = refl
+written-back TooLong = refl
+written-back BadEntry = refl
+
+written-tells : (a b : Written) → writtenNumbers a ≡ writtenNumbers b → a ≡ b
+written-tells = undone-tells writtenNumbers writtenBack written-back
+
+one-result : (o : Outcome) (a b : Written) (s t : List ℕ) → outcome a s ≡ o → outcome b t ≡ o → (a ≡ b) × (s ≡ t)
+one-result o a b s t p q =
+    let e = p ∙ sym q in
+    (written-tells a b (ap (λ (x : Outcome). x .answer) e), ap (λ (x : Outcome). x .buffer) e)
+
+-- a sound message has room
+sound-room : (m : ℕ) (buf : List ℕ) (kind : ℕ) (e : List ℕ) → appendSound m buf kind e .answer ≡ noRoom ∷ [] → ⊥
+unfolding appendSound offered refused written
+sound-room m buf kind e h = go (eqb kind (pduType buf) && wellFormed kind e) (ltb greatestSize (sizeOf (dataOf buf m ++ e))) h
+  where
+    go : (a b : Bool)
+        → cond a (cond b (refused tooLong buf) (written (message kind (messageCount buf + 1) (dataOf buf m ++ e)) buf)) (refused badEntry buf) .answer
+        ≡ noRoom ∷ []
+        → ⊥
+    go true true h = omega (arith, ap (λ (l : List ℕ). getD l 0 0) h)
+    go true false h = omega (arith, ap length h)
+    go false b h = omega (arith, ap (λ (l : List ℕ). getD l 0 0) h)
+
+append-room : (buf : List ℕ) (kind : ℕ) (e : List ℕ) → appendOf buf kind e .answer ≡ noRoom ∷ [] → length buf < leastRoom
+unfolding appendOf appendBy refused
+append-room buf kind e h = go (ltb (length buf) leastRoom) refl (decide buf) refl h
+  where
+    go : (a : Bool) → ltb (length buf) leastRoom ≡ a → (d : Decision) → decide buf ≡ d
+        → cond a (refused noRoom buf) (appendBy d buf kind e) .answer ≡ noRoom ∷ [] → length buf < leastRoom
+    go true q d s h = ltb-true (length buf) leastRoom q
+    go false q Undecided s h = omega (arith, deciding .short buf s)
+    go false q (Faulty f m) s h = absurd (omega (arith, ap length h))
+    go false q (Sound m) s h = absurd (sound-room m buf kind e h)
+
+pub one-results : OneResult
+one-results = record { numbers = written-tells; results = one-result; room = append-room }
