@@ -29,10 +29,11 @@ use Rattle.reader.specs.Numbers.{heartbeatNumbers}
 use Rattle.reader.specs.Read.{dataOf, messageOf, readBy, readOf}
 use Rattle.reader.proofs.Sounds.{keep-data}
 use Rattle.writer.specs.Numbers.{Outcome, writtenNumbers}
-use Rattle.writer.specs.Message.{sizeOf, message, atFront}
+use Rattle.layout.specs.Message.{sizeOf, message, atFront}
 use Rattle.writer.specs.Write.{leastRoom, greatestSeconds, written, startOf, appendOf, beatFits, beatBytes, keepAliveOf}
 use Rattle.writer.specs.Round.{Made, started, appended, entriesOf, entriesIn}
-use Rattle.writer.proofs.Messages.{length-message, length-data}
+use Rattle.layout.proofs.Messages.{length-message}
+use Rattle.writer.proofs.Messages.{length-data}
 use Rattle.writer.proofs.Outcomes.{sound-bounds, sound-entries, start-done, append-done, append-sound, beat-good}
 use Rattle.writer.proofs.Walks.{one-alone}
 use Rattle.writer.proofs.Heads.{sound-message}

@@ -16,8 +16,9 @@ use Rattle.frame.specs.declared.Decision.the-variants.{Sound}
 use Rattle.frame.proofs.Headers.{sound-header}
 use Rattle.frame.proofs.Sounds.{sound-at, at-sound}
 use Rattle.reader.specs.Read.{dataOf}
-use Rattle.writer.specs.Message.{sizeOf, headBytes, message}
-use Rattle.writer.proofs.Messages.{length-head, length-message, length-data}
+use Rattle.layout.specs.Message.{sizeOf, headBytes, message}
+use Rattle.layout.proofs.Messages.{length-head, length-message}
+use Rattle.writer.proofs.Messages.{length-data}
 
 -- the message at the front of s: its length, type, count and data
 pub record Holds (s : List ℕ) (n kind count : ℕ) (t : List ℕ) : Type 0 where

@@ -20,13 +20,14 @@ use Rattle.writer.specs.declared.Written.the-variants.{Length, NoRoom, F
 use Rattle.writer.specs.Numbers.{outcome, writtenNumbers}
 use Rattle.reader.specs.Read.{dataOf}
 use Rattle.reader.proofs.Sounds.{entries-data}
-use Rattle.writer.specs.Message.{sizeOf, message, atFront}
+use Rattle.layout.specs.Message.{sizeOf, message, atFront}
 use Rattle.writer.specs.Write.{leastRoom, greatestSeconds, refused, written, offered, startOf, appendSound, appendBy, appendOf, beatFits, beatBytes, keepAliveOf}
 use Rattle.frame.proofs.Entries.{entries-few}
 use Rattle.frame.proofs.Headers.{sound-header}
 use Rattle.frame.proofs.Sounds.{sound-at}
 use Rattle.laws.proofs.Conds.{cond-right}
-use Rattle.writer.proofs.Messages.{length-message, length-data}
+use Rattle.layout.proofs.Messages.{length-message}
+use Rattle.writer.proofs.Messages.{length-data}
 
 -- a sound message's length
 pub sound-bounds : (s : List ℕ) (n : ℕ) → decide s ≡ Sound n → (headerEnd ≤ n) × (n ≤ leastRoom) × (n ≤ length s)

@@ -25,10 +25,10 @@ use Rattle.reader.specs.Numbers.{heartbeatNumbers}
 use Rattle.reader.specs.Read.{dataOf, messageOf, readBy, readOf}
 use Rattle.reader.specs.Entry.{hasEntry, entryIn, entryBy, entryOf, partIn, partBy, partOf}
 use Rattle.writer.specs.Numbers.{done, tooLong, badEntry, noRoom, Outcome}
-use Rattle.writer.specs.Message.{sizeOf, message, atFront}
+use Rattle.layout.specs.Message.{sizeOf, message, atFront}
 use Rattle.writer.specs.Write.{leastRoom, greatestSeconds, refused, written, offered, startOf, appendSound, appendBy, appendOf, beatFits, beatBytes, keepAliveOf}
 use Rattle.writer.specs.Round.{Made, started, appended, entriesOf, entriesIn, ReadsAs}
-use Rattle.writer.proofs.Messages.{length-message}
+use Rattle.layout.proofs.Messages.{length-message}
 use Rattle.writer.proofs.Outcomes.{sound-entries, well-kind}
 use Rattle.writer.proofs.Walks.{fill-append, entries-append, length-entries, entries-index}
 use Rattle.writer.proofs.Heads.{Holds, message-holds}

@@ -20,7 +20,7 @@ use Rattle.reader.specs.Read.{dataOf}
 use Rattle.writer.specs.declared.Written.{Written}
 use Rattle.writer.specs.declared.Written.the-variants.{Length, NoRoom, Fault, TooLong, BadEntry}
 use Rattle.writer.specs.Numbers.{done, noRoom, tooLong, badEntry, writtenNumbers, Outcome, outcome}
-use Rattle.writer.specs.Message.{sizeOf, message}
+use Rattle.layout.specs.Message.{sizeOf, message}
 use Rattle.writer.specs.Write.{leastRoom, refused, written, offered, appendSound, appendBy, appendOf}
 use Rattle.writer.specs.Round.{ReadAfterWrite, WriteAfterRead, OneResult}
 use Rattle.writer.proofs.Readings.{start-reads, append-reads, made-reads, beat-reads, sound-reads}

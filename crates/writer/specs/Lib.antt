@@ -1,4 +1,3 @@
 pub mod Numbers
-pub mod Message
 pub mod Write
 pub mod Round

@@ -15,7 +15,7 @@ use Rattle.reader.specs.Read.{dataOf, readOf}
 use Rattle.reader.specs.Entry.{fieldsOf, entryAt, entryOf, partOf}
 use Rattle.writer.specs.declared.Written.{Written}
 use Rattle.writer.specs.Numbers.{done, noRoom, writtenNumbers, Outcome, outcome}
-use Rattle.writer.specs.Message.{atFront}
+use Rattle.layout.specs.Message.{atFront}
 use Rattle.writer.specs.Write.{leastRoom, written, startOf, appendOf, keepAliveOf}
 
 -- a start and appends into buf, none refused, with the entries es: the last answers n, and leaves the buffer after

@@ -15,7 +15,7 @@ use Rattle.frame.specs.declared.Decision.the-variants.{Undecided, Faulty, Sound
 use Rattle.reader.specs.Numbers.{fault}
 use Rattle.reader.specs.Read.{dataOf}
 use Rattle.writer.specs.Numbers.{Outcome, done, noRoom, tooLong, badEntry}
-use Rattle.writer.specs.Message.{sizeOf, message, atFront}
+use Rattle.layout.specs.Message.{sizeOf, message, atFront}
 
 -- "output under .. 2,049 (writer)"
 abbrev pub leastRoom : ℕ

@@ -11,7 +11,7 @@ ghost use Rattle.frame.specs.Decide.{decide};
 ghost use Rattle.frame.specs.declared.Decision.the-variants.{Sound};
 ghost use Rattle.reader.specs.Read.{dataOf};
 ghost use Rattle.writer.specs.Numbers.{outcome};
-ghost use Rattle.writer.specs.Message.{sizeOf, headBytes, message, atFront};
+ghost use Rattle.layout.specs.Message.{sizeOf, message, atFront};
 ghost use Rattle.writer.specs.Round.{ReadAfterWrite, WriteAfterRead, OneResult};
 ghost use Rattle.writer.specs.Write.{leastRoom, greatestSeconds, startOf, appendSound, appendOf, keepAliveOf};
 
@@ -32,23 +32,12 @@ pub enum Written {
     BadEntry,
 }
 
-fn put_head(buf: &mut [u8], kind: u8, count: u16, size: u32)
-    requires { ⌜ headerEnd ≤ length (now buf) ⌝ }
-    ensures { λ _. ⌜ now (buf .exit) ≡ sets (now (buf .entry)) 0 (headBytes kind count size) ⌝ }
-{
-    buf[0] = frame::SYNC;
-    octets::put16(buf, 1, frame::VERSION);
-    octets::put32(buf, 3, size);
-    buf[7] = kind;
-    octets::put16(buf, 8, count);
-}
-
 // The message of one entry.
 fn put_message(buf: &mut [u8], kind: u8, e: &[u8])
     requires { ⌜ (sizeOf (now e) ≤ greatestSize) × (leastRoom ≤ length (now buf)) ⌝ }
     ensures { λ _. ⌜ now (buf .exit) ≡ atFront (message kind 1 (now (e .entry))) (now (buf .entry)) ⌝ }
 {
-    put_head(buf, kind, 1, e.len() as u32 + frame::LEAST_SIZE);
+    layout::put_head(buf, kind, 1, e.len() as u32 + frame::LEAST_SIZE);
     octets::copy(e, buf, frame::HEADER_END);
 }
 
@@ -75,7 +64,7 @@ fn put_more(buf: &mut [u8], n: usize, kind: u8, e: &[u8])
     ensures { λ _. ⌜ now (buf .exit) ≡ atFront (message kind (messageCount (now (buf .entry)) + 1) (dataOf (now (buf .entry)) n ++ now (e .entry))) (now (buf .entry)) ⌝ }
 {
     let count = octets::be16(&buf[0..], 8);
-    put_head(buf, kind, count + 1, (n + e.len() - 1) as u32);
+    layout::put_head(buf, kind, count + 1, (n + e.len() - 1) as u32);
     octets::copy(e, buf, n);
 }
 
@@ -111,32 +100,6 @@ pub fn append(buf: &mut [u8], kind: u8, e: &[u8]) -> Written
     }
 }
 
-fn put_seconds(buf: &mut [u8], beat: heartbeat::Seconds)
-    requires { ⌜ leastRoom ≤ length (now buf) ⌝ }
-    ensures { λ _. ⌜ now (buf .exit) ≡ atFront (message keepAlive 1 (bytes16 (beat .0))) (now (buf .entry)) ⌝ }
-{
-    put_head(
-        buf,
-        frame::KEEP_ALIVE,
-        1,
-        frame::SECONDS_BYTES as u32 + frame::LEAST_SIZE,
-    );
-    octets::put16(buf, frame::HEADER_END, beat.0);
-}
-
-fn put_milliseconds(buf: &mut [u8], beat: heartbeat::Milliseconds)
-    requires { ⌜ leastRoom ≤ length (now buf) ⌝ }
-    ensures { λ _. ⌜ now (buf .exit) ≡ atFront (message keepAlive 1 (bytes32 (beat .0))) (now (buf .entry)) ⌝ }
-{
-    put_head(
-        buf,
-        frame::KEEP_ALIVE,
-        1,
-        frame::MILLISECONDS_BYTES as u32 + frame::LEAST_SIZE,
-    );
-    octets::put32(buf, frame::HEADER_END, beat.0);
-}
-
 // Writes a keep-alive from a form and a value in that form's unit.
 pub fn keep_alive(buf: &mut [u8], form: u8, value: u32) -> Written
     ensures { λ r. ⌜ outcome r (now (buf .exit)) ≡ keepAliveOf (now (buf .entry)) form value ⌝ }
@@ -145,7 +108,7 @@ pub fn keep_alive(buf: &mut [u8], form: u8, value: u32) -> Written
         return Written::NoRoom;
     }
     if form == heartbeat::MILLISECONDS_FORM {
-        put_milliseconds(buf, heartbeat::Milliseconds(value));
+        layout::put_milliseconds(buf, heartbeat::Milliseconds(value));
         return Written::Length(MILLISECONDS_LENGTH);
     }
     if form != heartbeat::SECONDS_FORM {
@@ -154,7 +117,7 @@ pub fn keep_alive(buf: &mut [u8], form: u8, value: u32) -> Written
     if GREATEST_SECONDS < value {
         return Written::BadEntry;
     }
-    put_seconds(buf, heartbeat::Seconds(value as u16));
+    layout::put_seconds(buf, heartbeat::Seconds(value as u16));
     Written::Length(SECONDS_LENGTH)
 }
 

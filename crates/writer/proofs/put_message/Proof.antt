@@ -1,6 +1,6 @@
 use mathlib.Core.Path.{refl}
 use native.Mathlib.Omega.{arith}
-use Rattle.writer.proofs.Messages.{put-whole}
+use Rattle.layout.proofs.Messages.{put-whole}
 use borrow.Author.Needs.{needs}
 use Rattle.writer.proofs.put_message.Statement.{statement}
 use Rattle.writer.proofs.put_message.Tie as tie

@@ -1,9 +1,9 @@
 use native.Mathlib.Omega.{arith}
 use lib.ListN.{length-set}
-use Rattle.writer.proofs.Messages.{head-stores}
+use Rattle.layout.proofs.Messages.{head-stores}
 use borrow.Author.Needs.{needs}
-use Rattle.writer.proofs.put_head.Statement.{statement}
-use Rattle.writer.proofs.put_head.Tie as tie
+use Rattle.layout.proofs.put_head.Statement.{statement}
+use Rattle.layout.proofs.put_head.Tie as tie
 
 slice-write-buf : tie.Need-slice-write-buf
 slice-write-buf c = search needs
