@@ -1,0 +1,235 @@
+-- Supervision keeps a connection's rules. No code is named. Assumes nothing.
+use Prim.Native.Nat.{ℕ, _+_, _-_, _*_, _/_, _%_, _^_, _<_, _≤_}
+use mathlib.Core.Path.{_≡_, refl, sym, ap, _∙_}
+use mathlib.Core.Logic.{_⊎_, inl, inr, ⊎-elim}
+use mathlib.Core.Bool.{Bool, true, false, cond, not, _&&_, _||_, and-true}
+use native.Mathlib.Omega.{arith}
+use borrow.Author.Tests.{ltb-true, lt-ltb, le-leb, leb-true, leb-false, eqb-true, eqb-false, eq-eqb, ne-eqb, not-true}
+use lib.Dec.{leb, ltb, eqb}
+use Rattle.laws.proofs.Conds.{and-left, and-right}
+use Rattle.laws.proofs.Tables.{and-both, or-cases, or-right, clash}
+use Rattle.heartbeat.specs.Beat.{formOf, beatOf}
+use Rattle.heartbeat.specs.declared.Heartbeat.{Heartbeat}
+use Rattle.heartbeat.specs.declared.Heartbeat.the-variants.{InSeconds, InMilliseconds}
+use Rattle.connection.specs.State.{closed, opened}
+use Rattle.connection.specs.Rules.{isClosed, isIdle, formObeys, isTimed, connectionObeys}
+use Rattle.connection.specs.Supervision.{fitsStep, closesAt, counted, quietAfter, tickedOf, heardOf, sentOf, supervised, setBeat, beatingOf, heartbeatOf}
+use Rattle.connection.specs.Kept.{fitsForm, SupervisionKept}
+use Rattle.connection.specs.declared.Connection.{Connection}
+use Rattle.connection.proofs.Times.{obeys-bound}
+
+-- ---- the rules by name
+record Timed (c : Connection) : Type 0 where
+  live : c .live ≡ true
+  nz : eqb (c .beat) 0 ≡ false
+  early : c .silence < 3 * c .beat
+  quiet : c .quiet < c .beat
+  due : not (c .due) || eqb (c .quiet) 0 ≡ true
+  form : formObeys c ≡ true
+
+record Still (c : Connection) : Type 0 where
+  beat : c .beat ≡ 0
+  silence : c .silence ≡ 0
+  quiet : c .quiet ≡ 0
+  form : c .form ≡ 0
+  due : c .due ≡ false
+
+timed-obeys : (c : Connection) → Timed c → connectionObeys c ≡ true
+unfolding connectionObeys isTimed
+timed-obeys c t =
+    or-right (isClosed c) (c .live && (isIdle c || isTimed c))
+    (and-both _ _ (t .live)
+    (or-right (isIdle c) (isTimed c)
+    (and-both _ _ (and-both _ _ (and-both _ _ (and-both _ _ (ap not (t .nz)) (lt-ltb _ _ (t .early))) (lt-ltb _ _ (t .quiet))) (t .due)) (t .form))))
+
+still-obeys : (c : Connection) → Still c → connectionObeys c ≡ true
+unfolding connectionObeys isClosed isIdle
+still-obeys c s =
+    let b = eq-eqb (c .beat) 0 (s .beat) in
+    let i = eq-eqb (c .silence) 0 (s .silence) in
+    let q = eq-eqb (c .quiet) 0 (s .quiet) in
+    let f = eq-eqb (c .form) 0 (s .form) in
+    go (c .live) refl b i q f
+  where
+    go : (l : Bool) → c .live ≡ l → eqb (c .beat) 0 ≡ true → eqb (c .silence) 0 ≡ true → eqb (c .quiet) 0 ≡ true → eqb (c .form) 0 ≡ true → connectionObeys c ≡ true
+    go true l b i q f = rw (l, b, i, q, f, s .due)
+    go false l b i q f = rw (l, b, i, q, f, s .due)
+
+closed-still : (c : Connection) → isClosed c ≡ true → Still c
+unfolding isClosed
+closed-still c h =
+    let h4 = and-left _ (not (c .due)) h in
+    let h3 = and-left _ (eqb (c .quiet) 0) h4 in
+    let h2 = and-left _ (eqb (c .silence) 0) h3 in
+    let h1 = and-left _ (eqb (c .beat) 0) h2 in
+    record {
+      beat = eqb-true _ _ (and-right (not (c .live) && eqb (c .form) 0) _ h2);
+      silence = eqb-true _ _ (and-right (not (c .live) && eqb (c .form) 0 && eqb (c .beat) 0) _ h3);
+      quiet = eqb-true _ _ (and-right (not (c .live) && eqb (c .form) 0 && eqb (c .beat) 0 && eqb (c .silence) 0) _ h4);
+      form = eqb-true _ _ (and-right (not (c .live)) _ h1);
+      due = not-true (c .due) (and-right (not (c .live) && eqb (c .form) 0 && eqb (c .beat) 0 && eqb (c .silence) 0 && eqb (c .quiet) 0) _ h);
+    }
+
+idle-still : (c : Connection) → isIdle c ≡ true → Still c
+unfolding isIdle
+idle-still c h =
+    let h3 = and-left _ (not (c .due)) h in
+    let h2 = and-left _ (eqb (c .form) 0) h3 in
+    let h1 = and-left _ (eqb (c .quiet) 0) h2 in
+    record {
+      beat = eqb-true _ _ (and-left _ (eqb (c .silence) 0) h1);
+      silence = eqb-true _ _ (and-right (eqb (c .beat) 0) _ h1);
+      quiet = eqb-true _ _ (and-right (eqb (c .beat) 0 && eqb (c .silence) 0) _ h2);
+      form = eqb-true _ _ (and-right (eqb (c .beat) 0 && eqb (c .silence) 0 && eqb (c .quiet) 0) _ h3);
+      due = not-true (c .due) (and-right (eqb (c .beat) 0 && eqb (c .silence) 0 && eqb (c .quiet) 0 && eqb (c .form) 0) _ h);
+    }
+
+timed-are : (c : Connection) → c .live ≡ true → isTimed c ≡ true → Timed c
+unfolding isTimed
+timed-are c l t =
+    let t4 = and-left _ (formObeys c) t in
+    let t3 = and-left _ (not (c .due) || eqb (c .quiet) 0) t4 in
+    let t2 = and-left _ (ltb (c .quiet) (c .beat)) t3 in
+    record {
+      live = l;
+      nz = not-true (eqb (c .beat) 0) (and-left _ (ltb (c .silence) (3 * c .beat)) t2);
+      early = ltb-true _ _ (and-right (not (eqb (c .beat) 0)) (ltb (c .silence) (3 * c .beat)) t2);
+      quiet = ltb-true _ _ (and-right (not (eqb (c .beat) 0) && ltb (c .silence) (3 * c .beat)) (ltb (c .quiet) (c .beat)) t3);
+      due = and-right (not (eqb (c .beat) 0) && ltb (c .silence) (3 * c .beat) && ltb (c .quiet) (c .beat)) _ t4;
+      form = and-right (not (eqb (c .beat) 0) && ltb (c .silence) (3 * c .beat) && ltb (c .quiet) (c .beat) && (not (c .due) || eqb (c .quiet) 0)) _ t;
+    }
+
+-- a connection that obeys is still or timed
+obeys-view : (c : Connection) → connectionObeys c ≡ true → Still c ⊎ Timed c
+unfolding connectionObeys
+obeys-view c h =
+    ⊎-elim (λ k. inl (closed-still c k))
+    (λ k. ⊎-elim (λ i. inl (idle-still c i)) (λ t. inr (timed-are c (and-left (c .live) _ k) t)) (or-cases (isIdle c) (isTimed c) (and-right (c .live) _ k)))
+    (or-cases (isClosed c) _ h)
+
+-- ---- a tick
+shut : connectionObeys closed ≡ true
+unfolding connectionObeys isClosed
+shut = refl
+
+fresh : connectionObeys opened ≡ true
+unfolding connectionObeys isClosed isIdle
+fresh = refl
+
+quiet-keeps : (step : ℕ) (c : Connection) → Timed c → connectionObeys (quietAfter step c) ≡ true
+unfolding quietAfter formObeys
+quiet-keeps step c t = go (c .due) refl (leb (c .beat) (c .quiet + step)) refl
+  where
+    go : (d : Bool) → c .due ≡ d → (q : Bool) → leb (c .beat) (c .quiet + step) ≡ q → connectionObeys (cond d c (cond q (counted c (c .silence) 0 true) (counted c (c .silence) (c .quiet + step) false))) ≡ true
+    go true d q e = timed-obeys c t
+    go false d true e =
+        timed-obeys _ (record { live = t .live; nz = t .nz; early = t .early; quiet = omega (arith, t .quiet); due = refl; form = t .form })
+    go false d false e =
+        timed-obeys _ (record { live = t .live; nz = t .nz; early = t .early; quiet = leb-false _ _ e; due = refl; form = t .form })
+
+ticking : (step : ℕ) (c : Connection) → connectionObeys c ≡ true → connectionObeys (tickedOf step c) ≡ true
+unfolding tickedOf closesAt formObeys
+ticking step c h = ⊎-elim still timed (obeys-view c h)
+  where
+    still : Still c → connectionObeys (tickedOf step c) ≡ true
+    still s = rw (eq-eqb (c .beat) 0 (s .beat)) h
+
+    late : Timed c → (k : Bool) → leb (3 * c .beat) (c .silence + step) ≡ k → connectionObeys (tickedOf step c) ≡ true
+    late t true k = rw (t .nz, k) shut
+    late t false k =
+        rw (t .nz, k)
+        (quiet-keeps step (counted c (c .silence + step) (c .quiet) (c .due))
+        (record { live = t .live; nz = t .nz; early = leb-false _ _ k; quiet = t .quiet; due = t .due; form = t .form }))
+
+    timed : Timed c → connectionObeys (tickedOf step c) ≡ true
+    timed t = late t (leb (3 * c .beat) (c .silence + step)) refl
+
+-- ---- heard and sent
+hearing : (c : Connection) → connectionObeys c ≡ true → connectionObeys (heardOf c) ≡ true
+unfolding heardOf formObeys
+hearing c h =
+    ⊎-elim
+    (λ (s : Still c). still-obeys _ (record { beat = s .beat; silence = refl; quiet = s .quiet; form = s .form; due = s .due }))
+    (λ (t : Timed c). timed-obeys _ (record { live = t .live; nz = t .nz; early = omega (arith, t .early); quiet = t .quiet; due = t .due; form = t .form }))
+    (obeys-view c h)
+
+sending : (c : Connection) → connectionObeys c ≡ true → connectionObeys (sentOf c) ≡ true
+unfolding sentOf formObeys
+sending c h =
+    ⊎-elim
+    (λ (s : Still c). still-obeys _ (record { beat = s .beat; silence = s .silence; quiet = refl; form = s .form; due = refl }))
+    (λ (t : Timed c). timed-obeys _ (record { live = t .live; nz = t .nz; early = t .early; quiet = omega (arith, t .quiet); due = refl; form = t .form }))
+    (obeys-view c h)
+
+-- ---- a keep-alive
+-- the form with its H, where a value fits its kind
+sets-form : (h : Heartbeat) (c : Connection) → fitsForm h ≡ true → formObeys (counted (supervised c (formOf h) (beatOf h)) 0 0 false) ≡ true
+unfolding formObeys formOf beatOf fitsForm
+sets-form (InSeconds s) c k =
+    let b = leb-true (s .0) 65535 k in
+    let m : s .0 * 1000 % 1000 ≡ 0 = omega arith in
+    rw (eq-eqb _ _ m, le-leb (s .0 * 1000) 65535000 (omega arith))
+sets-form (InMilliseconds m) c k = rw k
+
+beating : (h : Heartbeat) (c : Connection) → fitsForm h ≡ true → c .live ≡ true → connectionObeys (beatingOf h c) ≡ true
+unfolding beatingOf setBeat heardOf sentOf
+beating h c k l = go (eqb (beatOf h) 0) refl
+  where
+    go : (z : Bool) → eqb (beatOf h) 0 ≡ z → connectionObeys (counted (cond z (supervised c 0 0) (supervised c (formOf h) (beatOf h))) 0 0 false) ≡ true
+    go true z = still-obeys _ (record { beat = refl; silence = refl; quiet = refl; form = refl; due = refl })
+    go false z =
+        let n = eqb-false (beatOf h) 0 z in
+        let e : 0 < 3 * beatOf h = omega arith in
+        let q : 0 < beatOf h = omega arith in
+        timed-obeys _ (record { live = l; nz = z; early = e; quiet = q; due = refl; form = sets-form h c k })
+
+telling : (h : Heartbeat) (c : Connection) → eqb (beatOf h) 0 ≡ false → heartbeatOf (beatingOf h c) ≡ h
+unfolding heartbeatOf beatingOf setBeat heardOf sentOf formOf beatOf
+telling (InSeconds s) c z =
+    let e : s .0 * 1000 / 1000 ≡ s .0 = omega arith in
+    rw (z, e)
+telling (InMilliseconds m) c z = rw z
+
+-- ---- what a tick asks and leaves
+fitting : (step : ℕ) (c : Connection) → step < 2 ^ 31 → connectionObeys c ≡ true → fitsStep step c ≡ true
+unfolding fitsStep
+fitting step c b h =
+    ⊎-elim
+    (λ (s : Still c). both (omega (arith, s .silence)) (omega (arith, s .quiet)))
+    (λ (t : Timed c).
+    let top = obeys-bound c h .beat in
+    both (omega (arith, t .early)) (omega (arith, t .quiet)))
+    (obeys-view c h)
+  where
+    both : c .silence + step ≤ 18446744073709551615 → c .quiet + step ≤ 18446744073709551615 → fitsStep step c ≡ true
+    both s q = and-both _ _ (le-leb (c .silence + step) 18446744073709551615 s) (le-leb (c .quiet + step) 18446744073709551615 q)
+
+leaving : (step : ℕ) (c : Connection) → tickedOf step c .live ≡ (c .live && not (closesAt step c))
+unfolding tickedOf closesAt quietAfter
+leaving step c = go (eqb (c .beat) 0) refl (leb (3 * c .beat) (c .silence + step)) refl (c .due) refl (leb (c .beat) (c .quiet + step)) refl (c .live) refl
+  where
+    go : (z : Bool) → eqb (c .beat) 0 ≡ z → (k : Bool) → leb (3 * c .beat) (c .silence + step) ≡ k → (d : Bool) → c .due ≡ d → (q : Bool) → leb (c .beat) (c .quiet + step) ≡ q → (l : Bool) → c .live ≡ l → tickedOf step c .live ≡ (c .live && not (closesAt step c))
+    go true z k e d f q g true l = rw (z, l)
+    go true z k e d f q g false l = rw (z, l)
+    go false z true e d f q g true l = rw (z, e, l)
+    go false z true e d f q g false l = rw (z, e, l)
+    go false z false e true f q g true l = rw (z, e, f, l)
+    go false z false e true f q g false l = rw (z, e, f, l)
+    go false z false e false f true g true l = rw (z, e, f, g, l)
+    go false z false e false f true g false l = rw (z, e, f, g, l)
+    go false z false e false f false g true l = rw (z, e, f, g, l)
+    go false z false e false f false g false l = rw (z, e, f, g, l)
+
+pub supervision-kept : SupervisionKept
+supervision-kept =
+    record {
+      shut = shut;
+      fresh = fresh;
+      ticking = ticking;
+      hearing = hearing;
+      sending = sending;
+      beating = beating;
+      fitting = fitting;
+      leaving = leaving;
+      telling = telling;
+    }

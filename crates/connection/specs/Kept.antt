@@ -1,0 +1,32 @@
+-- What supervision keeps, for every connection.
+use Prim.Native.Nat.{ℕ, _^_, _<_}
+use mathlib.Core.Path.{_≡_}
+use mathlib.Core.Bool.{Bool, true, false, not, _&&_}
+use lib.Dec.{eqb, leb}
+use Rattle.heartbeat.specs.Beat.{beatOf}
+use Rattle.heartbeat.specs.declared.Heartbeat.{Heartbeat}
+use Rattle.heartbeat.specs.declared.Heartbeat.the-variants.{InSeconds, InMilliseconds}
+use Rattle.connection.specs.State.{closed, opened}
+use Rattle.connection.specs.Rules.{topMilliseconds, connectionObeys}
+use Rattle.connection.specs.Supervision.{fitsStep, closesAt, tickedOf, heardOf, sentOf, beatingOf, heartbeatOf}
+use Rattle.connection.specs.declared.Connection.{Connection}
+
+-- the value fits its kind: "2 bytes of seconds, or 4 bytes of milliseconds"
+unfoldable pub fitsForm : Heartbeat → Bool
+fitsForm (InSeconds s) = leb (s .0) 65535
+fitsForm (InMilliseconds m) = leb (m .0) topMilliseconds
+
+pub record SupervisionKept : Type 0 where
+  -- the record rules
+  pub shut : connectionObeys closed ≡ true
+  pub fresh : connectionObeys opened ≡ true
+  pub ticking : (step : ℕ) (c : Connection) → connectionObeys c ≡ true → connectionObeys (tickedOf step c) ≡ true
+  pub hearing : (c : Connection) → connectionObeys c ≡ true → connectionObeys (heardOf c) ≡ true
+  pub sending : (c : Connection) → connectionObeys c ≡ true → connectionObeys (sentOf c) ≡ true
+  pub beating : (h : Heartbeat) (c : Connection) → fitsForm h ≡ true → c .live ≡ true → connectionObeys (beatingOf h c) ≡ true
+  -- a connection that obeys takes any step that row 6 lets pass
+  pub fitting : (step : ℕ) (c : Connection) → step < 2 ^ 31 → connectionObeys c ≡ true → fitsStep step c ≡ true
+  -- a tick closes exactly what it says
+  pub leaving : (step : ℕ) (c : Connection) → tickedOf step c .live ≡ (c .live && not (closesAt step c))
+  -- "in the same form with the same value": what a due keep-alive carries is what was set
+  pub telling : (h : Heartbeat) (c : Connection) → eqb (beatOf h) 0 ≡ false → heartbeatOf (beatingOf h c) ≡ h
