@@ -6,8 +6,8 @@ use mathlib.Core.Bool.{Bool, true, false, cond, not, _&&_, _||_}
 use mathlib.Core.List.{List, [], _∷_, map}
 use native.Mathlib.Nat.{not-suc-le-zero, le-of-suc-le-suc}
 use native.Mathlib.Omega.{arith}
-use borrow.Author.Tests.{lt-ltb, le-ltb, ltb-true, ltb-false}
-use lib.Dec.{ltb}
+use borrow.Author.Tests.{lt-ltb, le-ltb, ltb-true, ltb-false, eq-eqb, ne-eqb, eqb-true, eqb-false}
+use lib.Dec.{ltb, eqb}
 use lib.ListN.{length, set, getD}
 use Rattle.laws.specs.Lists.{all, any, allPairs, index}
 use Rattle.laws.proofs.Conds.{and-left, and-right}
@@ -36,6 +36,13 @@ clash P b t f = let z : _≡_ {A = ℕ} 0 1 = cc in absurd (no z)
   where
     no : _≡_ {A = ℕ} 0 1 → ⊥
     no z = omega arith
+
+pub eqb-even : (a b : ℕ) → eqb a b ≡ eqb b a
+eqb-even a b = go (eqb b a) refl
+  where
+    go : (t : Bool) → eqb b a ≡ t → eqb a b ≡ t
+    go true e = eq-eqb a b (sym (eqb-true b a e))
+    go false e = ne-eqb a b (λ (q : a ≡ b). eqb-false b a e (sym q))
 
 module _ {A : Type 0} where
   pub all-set : (p : A → Bool) (l : List A) (n : ℕ) (v : A) → all p l ≡ true → p v ≡ true → all p (set l n v) ≡ true

@@ -1,0 +1,235 @@
+// A subscription entry: who is told of which mute's changes.
+use connection::Connection;
+ghost use mathlib.Core.Path.{_≡_};
+ghost use mathlib.Core.List.{map};
+ghost use lib.ListN.{drop};
+ghost use Rattle.laws.specs.Lists.{all, allPairs};
+ghost use Rattle.subscription.specs.State.{isMute, isTwin, twinAt, lowestUnused, lowestWaiting, markedOf, sweptOf};
+ghost use Rattle.subscription.specs.Rules.{isFree, isSound, entryObeys, apart};
+ghost use Rattle.subscription.specs.Kept.{EntriesKept};
+
+pub const ENTRIES: usize = 32;
+
+pub const FIRST_MUTE: u32 = 4097;
+
+pub const LAST_MUTE: u32 = 4104;
+
+// Event 1.1.
+pub const CHANGE_EVENT: u32 = 65537;
+
+// An event and a method are level x 65,536 + index.
+pub struct Subscription {
+    pub used: bool,
+    pub waiting: bool,
+    pub connection: u8,
+    pub emitter: u32,
+    pub event: u32,
+    pub object: u32,
+    pub method: u32,
+    pub context: u32,
+}
+
+pub fn is_mute(object: u32) -> bool
+    ensures { λ r. ⌜ r ≡ isMute object ⌝ }
+{
+    (FIRST_MUTE <= object) & (object <= LAST_MUTE)
+}
+
+impl Subscription {
+    pub const FREE: Subscription = Subscription {
+        used: false,
+        waiting: false,
+        connection: 0,
+        emitter: 0,
+        event: 0,
+        object: 0,
+        method: 0,
+        context: 0,
+    };
+
+    fn is_free(self) -> bool
+        ensures { λ r. ⌜ r ≡ isFree self ⌝ }
+    {
+        !self.used
+            & !self.waiting
+            & (self.connection == 0)
+            & (self.emitter == 0)
+            & (self.event == 0)
+            & (self.object == 0)
+            & (self.method == 0)
+            & (self.context == 0)
+    }
+
+    fn is_sound(self, connections: [Connection; 8]) -> bool
+        ensures { λ r. ⌜ r ≡ isSound connections self ⌝ }
+    {
+        let live = connection::live_at(connections, self.connection);
+        let mute = is_mute(self.emitter);
+        self.used & live & mute & (self.event == CHANGE_EVENT)
+    }
+
+    pub fn obeys(self, connections: [Connection; 8]) -> bool
+        ensures { λ r. ⌜ r ≡ entryObeys connections self ⌝ }
+    {
+        let unused = self.is_free();
+        let sound = self.is_sound(connections);
+        unused | sound
+    }
+
+    // The same subscription, whatever its context.
+    pub fn is_twin(self, t: Subscription) -> bool
+        ensures { λ r. ⌜ r ≡ isTwin self t ⌝ }
+    {
+        self.used
+            & t.used
+            & (self.connection == t.connection)
+            & (self.emitter == t.emitter)
+            & (self.event == t.event)
+            & (self.object == t.object)
+            & (self.method == t.method)
+    }
+
+    fn is_apart(self, t: Subscription) -> bool
+        ensures { λ r. ⌜ r ≡ apart self t ⌝ }
+    {
+        !self.is_twin(t)
+    }
+
+    pub fn marked(mut self, emitter: u32) -> Subscription
+        ensures { λ r. ⌜ r ≡ markedOf emitter self ⌝ }
+    {
+        if self.used & (self.emitter == emitter) {
+            self.waiting = true;
+            return self;
+        }
+        self
+    }
+
+    pub fn swept(self, connections: [Connection; 8]) -> Subscription
+        ensures { λ r. ⌜ r ≡ sweptOf connections self ⌝ }
+    {
+        let live = connection::live_at(connections, self.connection);
+        if self.used & !live {
+            return Subscription::FREE;
+        }
+        self
+    }
+}
+
+pub fn all_obey(entries: [Subscription; 32], connections: [Connection; 8]) -> bool
+    ensures { λ r. ⌜ r ≡ all (entryObeys connections) entries ⌝ }
+{
+    let mut i: usize = 0;
+    while i < ENTRIES {
+        let s = entries[i];
+        if !s.obeys(connections) {
+            return false;
+        }
+        i += 1;
+    }
+    true
+}
+
+// No entry from place k on is s's twin.
+fn apart_from(entries: [Subscription; 32], s: Subscription, k: usize) -> bool
+    ensures { λ r. ⌜ r ≡ all (apart s) (drop k entries) ⌝ }
+{
+    let mut j = k;
+    while j < ENTRIES {
+        let t = entries[j];
+        if !s.is_apart(t) {
+            return false;
+        }
+        j += 1;
+    }
+    true
+}
+
+pub fn all_apart(entries: [Subscription; 32]) -> bool
+    ensures { λ r. ⌜ r ≡ allPairs apart entries ⌝ }
+{
+    let mut i: usize = 0;
+    while i < ENTRIES {
+        let s = entries[i];
+        if !apart_from(entries, s, i + 1) {
+            return false;
+        }
+        i += 1;
+    }
+    true
+}
+
+// The entry of the same subscription, or 32.
+pub fn twin_at(entries: [Subscription; 32], s: Subscription) -> usize
+    ensures { λ r. ⌜ r ≡ twinAt s entries ⌝ }
+{
+    let mut i: usize = 0;
+    while i < ENTRIES {
+        let t = entries[i];
+        if s.is_twin(t) {
+            return i;
+        }
+        i += 1;
+    }
+    i
+}
+
+// The lowest free entry, or 32.
+pub fn lowest_unused(entries: [Subscription; 32]) -> usize
+    ensures { λ r. ⌜ r ≡ lowestUnused entries ⌝ }
+{
+    let mut i: usize = 0;
+    while i < ENTRIES {
+        let t = entries[i];
+        if !t.used {
+            return i;
+        }
+        i += 1;
+    }
+    i
+}
+
+// The lowest waiting entry, or 32.
+pub fn lowest_waiting(entries: [Subscription; 32]) -> usize
+    ensures { λ r. ⌜ r ≡ lowestWaiting entries ⌝ }
+{
+    let mut i: usize = 0;
+    while i < ENTRIES {
+        let t = entries[i];
+        if t.waiting {
+            return i;
+        }
+        i += 1;
+    }
+    i
+}
+
+pub fn all_marked(entries: [Subscription; 32], emitter: u32) -> [Subscription; 32]
+    ensures { λ r. ⌜ r ≡ map (markedOf emitter) entries ⌝ }
+{
+    let mut out = entries;
+    let mut i: usize = 0;
+    while i < ENTRIES {
+        let s = out[i];
+        out[i] = s.marked(emitter);
+        i += 1;
+    }
+    out
+}
+
+pub fn all_swept(entries: [Subscription; 32], connections: [Connection; 8]) -> [Subscription; 32]
+    ensures { λ r. ⌜ r ≡ map (sweptOf connections) entries ⌝ }
+{
+    let mut out = entries;
+    let mut i: usize = 0;
+    while i < ENTRIES {
+        let s = out[i];
+        out[i] = s.swept(connections);
+        i += 1;
+    }
+    out
+}
+
+pub fn entries_kept()
+    ensures { λ _. ⌜ EntriesKept ⌝ }
+{}
