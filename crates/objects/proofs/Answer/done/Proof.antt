@@ -1,0 +1,11 @@
+use Rattle.objects.specs.Answers.{toldOf}
+use mathlib.Core.Path.{refl}
+use Rattle.objects.proofs.Answer.done.Statement.{statement}
+use Rattle.objects.proofs.Answer.done.Tie as tie
+
+returns : tie.Need-returns
+unfolding toldOf
+returns c = refl
+
+pub done-spec : {M : Type 1} → statement M
+done-spec = tie.close (tie.spec returns)

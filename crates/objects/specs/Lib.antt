@@ -1,0 +1,3 @@
+pub mod Methods
+pub mod Tests
+pub mod Answers

@@ -1,0 +1,249 @@
+// The objects and their methods: which there are, what arguments they take, and what a reply carries.
+use subscription::Subscription;
+ghost use mathlib.Core.Path.{_≡_};
+ghost use mathlib.Core.Bool.{true, false};
+ghost use mathlib.Core.List.{[], _∷_};
+ghost use Prim.Native.Nat.{_<_, _≤_};
+ghost use lib.ListN.{length};
+ghost use Rattle.subscription.specs.State.{isMute};
+ghost use Rattle.objects.specs.Methods.{methodNumber, placeOf, isManager, isObject, isTelling, isLocking, hasMethod};
+ghost use Rattle.objects.specs.Tests.{isForbidden, countOf, lengthOf, isMalformed, entryOf, withContext, isStrange, isMuteValue};
+ghost use Rattle.objects.specs.Answers.{classOf, identificationOf, failedOf, toldOf};
+
+pub const DEVICE_MANAGER: u32 = 1;
+
+pub const SUBSCRIPTION_MANAGER: u32 = 4;
+
+// Methods, as level x 65,536 + index: 1.1, 1.2, 1.3, 1.4, 3.1, 3.2, 3.14, 4.1, 4.2.
+pub const CLASS: u32 = 65537;
+
+pub const LOCKABLE: u32 = 65538;
+
+pub const LOCK: u32 = 65539;
+
+pub const UNLOCK: u32 = 65540;
+
+pub const ADD: u32 = 196609;
+
+pub const REMOVE: u32 = 196610;
+
+pub const RESET_KEY: u32 = 196622;
+
+pub const GET: u32 = 262145;
+
+pub const SET: u32 = 262146;
+
+// What a reply carries: numbers alone, so that it can be handed to a host in another language.
+pub struct Answer {
+    pub status: u8,
+    pub count: u8,
+    pub length: u8,
+    pub bytes: [u8; 12],
+}
+
+pub fn method(level: u16, index: u16) -> u32
+    ensures { λ r. ⌜ r ≡ methodNumber level index ⌝ }
+{
+    (level as u32) * 65536 + (index as u32)
+}
+
+// A mute's place among the eight.
+pub fn place(target: u32) -> usize
+    requires { ⌜ isMute target ≡ true ⌝ }
+    ensures { λ r. ⌜ (r ≡ placeOf target) × (r < 8) ⌝ }
+{
+    (target - subscription::FIRST_MUTE) as usize
+}
+
+fn is_manager(target: u32) -> bool
+    ensures { λ r. ⌜ r ≡ isManager target ⌝ }
+{
+    (target == DEVICE_MANAGER) | (target == SUBSCRIPTION_MANAGER)
+}
+
+pub fn is_object(target: u32) -> bool
+    ensures { λ r. ⌜ r ≡ isObject target ⌝ }
+{
+    let manager = is_manager(target);
+    let mute = subscription::is_mute(target);
+    manager | mute
+}
+
+pub fn is_telling(m: u32) -> bool
+    ensures { λ r. ⌜ r ≡ isTelling m ⌝ }
+{
+    (m == CLASS) | (m == LOCKABLE)
+}
+
+fn is_locking(m: u32) -> bool
+    ensures { λ r. ⌜ r ≡ isLocking m ⌝ }
+{
+    (m == LOCK) | (m == UNLOCK)
+}
+
+pub fn has_method(target: u32, m: u32) -> bool
+    ensures { λ r. ⌜ r ≡ hasMethod target m ⌝ }
+{
+    let telling = is_telling(m);
+    let locking = is_locking(m);
+    let mute = subscription::is_mute(target);
+    telling
+        | locking
+        | (((m == GET) | (m == SET)) & mute)
+        | (((m == ADD) | (m == REMOVE)) & (target == SUBSCRIPTION_MANAGER))
+        | ((m == RESET_KEY) & (target == DEVICE_MANAGER))
+}
+
+pub fn is_forbidden(target: u32, m: u32) -> bool
+    ensures { λ r. ⌜ r ≡ isForbidden target m ⌝ }
+{
+    let locking = is_locking(m);
+    let manager = is_manager(target);
+    (m == RESET_KEY) | (locking & manager)
+}
+
+fn count_of(m: u32) -> u8
+    ensures { λ r. ⌜ r ≡ countOf m ⌝ }
+{
+    if m == SET {
+        return 1;
+    }
+    if m == ADD {
+        return 5;
+    }
+    if m == REMOVE {
+        return 2;
+    }
+    0
+}
+
+fn length_of(m: u32) -> usize
+    ensures { λ r. ⌜ r ≡ lengthOf m ⌝ }
+{
+    if m == SET {
+        return 1;
+    }
+    if m == ADD {
+        return 23;
+    }
+    if m == REMOVE {
+        return 16;
+    }
+    0
+}
+
+pub fn is_malformed(m: u32, count: u8, part: &[u8]) -> bool
+    ensures { λ r. ⌜ r ≡ isMalformed m count (now (part .entry)) ⌝ }
+{
+    if count != count_of(m) {
+        return true;
+    }
+    if part.len() != length_of(m) {
+        return true;
+    }
+    if m != ADD {
+        return false;
+    }
+    !((part[21] == 0) & (part[22] == 0))
+}
+
+// The arguments of add and remove; remove has no context.
+pub fn entry(n: u8, part: &[u8], context: u32) -> Subscription
+    requires { ⌜ 16 ≤ length (now part) ⌝ }
+    ensures { λ r. ⌜ r ≡ withContext (entryOf n (now (part .entry))) context ⌝ }
+{
+    let emitter = octets::be32(part, 0);
+    let event = octets::be32(part, 4);
+    let object = octets::be32(part, 8);
+    let method = octets::be32(part, 12);
+    Subscription {
+        used: true,
+        waiting: false,
+        connection: n,
+        emitter,
+        event,
+        object,
+        method,
+        context,
+    }
+}
+
+pub fn is_strange(part: &[u8]) -> bool
+    requires { ⌜ 8 ≤ length (now part) ⌝ }
+    ensures { λ r. ⌜ r ≡ isStrange (now (part .entry)) ⌝ }
+{
+    let emitter = octets::be32(part, 0);
+    let event = octets::be32(part, 4);
+    let mute = subscription::is_mute(emitter);
+    !(mute & (event == subscription::CHANGE_EVENT))
+}
+
+pub fn is_mute_value(v: u8) -> bool
+    ensures { λ r. ⌜ r ≡ isMuteValue v ⌝ }
+{
+    (v == 1) | (v == 2)
+}
+
+impl Answer {
+    pub fn failed(status: u8) -> Answer
+        ensures { λ r. ⌜ r ≡ failedOf status ⌝ }
+    {
+        let bytes = [0u8; 12];
+        Answer {
+            status,
+            count: 0,
+            length: 0,
+            bytes,
+        }
+    }
+
+    pub fn done() -> Answer
+        ensures { λ r. ⌜ r ≡ toldOf [] ⌝ }
+    {
+        let bytes = [0u8; 12];
+        Answer {
+            status: 0,
+            count: 0,
+            length: 0,
+            bytes,
+        }
+    }
+
+    pub fn byte(v: u8) -> Answer
+        ensures { λ r. ⌜ r ≡ toldOf (v ∷ []) ⌝ }
+    {
+        let mut bytes = [0u8; 12];
+        bytes[0] = v;
+        Answer {
+            status: 0,
+            count: 1,
+            length: 1,
+            bytes,
+        }
+    }
+
+    // Class 1.1.1.2 of a mute; 1.3.1 or 1.3.4 of a manager.
+    pub fn class(target: u32) -> Answer
+        ensures { λ r. ⌜ r ≡ toldOf (identificationOf (classOf target)) ⌝ }
+    {
+        if subscription::is_mute(target) {
+            let bytes = [0u8, 4, 0, 1, 0, 1, 0, 1, 0, 2, 0, 1];
+            return Answer {
+                status: 0,
+                count: 1,
+                length: 12,
+                bytes,
+            };
+        }
+        let mut bytes = [0u8, 3, 0, 1, 0, 3, 0, 4, 0, 1, 0, 0];
+        if target == DEVICE_MANAGER {
+            bytes[7] = 1;
+        }
+        Answer {
+            status: 0,
+            count: 1,
+            length: 10,
+            bytes,
+        }
+    }
+}
