@@ -5,10 +5,13 @@ ghost use mathlib.Core.Bool.{true, false};
 ghost use mathlib.Core.List.{[], _∷_};
 ghost use Prim.Native.Nat.{_<_, _≤_};
 ghost use lib.ListN.{length};
+ghost use Rattle.laws.specs.Lists.{all};
 ghost use Rattle.subscription.specs.State.{isMute};
 ghost use Rattle.objects.specs.Methods.{methodNumber, placeOf, isManager, isObject, isTelling, isLocking, hasMethod};
 ghost use Rattle.objects.specs.Tests.{isForbidden, countOf, lengthOf, isMalformed, entryOf, withContext, isStrange, isMuteValue};
 ghost use Rattle.objects.specs.Answers.{classOf, identificationOf, failedOf, toldOf};
+
+pub const MUTES: usize = 8;
 
 pub const DEVICE_MANAGER: u32 = 1;
 
@@ -182,6 +185,20 @@ pub fn is_mute_value(v: u8) -> bool
     ensures { λ r. ⌜ r ≡ isMuteValue v ⌝ }
 {
     (v == 1) | (v == 2)
+}
+
+pub fn all_mute_values(mutes: [u8; 8]) -> bool
+    ensures { λ r. ⌜ r ≡ all isMuteValue mutes ⌝ }
+{
+    let mut i: usize = 0;
+    while i < MUTES {
+        let v = mutes[i];
+        if !is_mute_value(v) {
+            return false;
+        }
+        i += 1;
+    }
+    true
 }
 
 impl Answer {

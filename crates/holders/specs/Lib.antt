@@ -1,0 +1,2 @@
+pub mod Holders
+pub mod Kept
