@@ -1,11 +1,11 @@
 -- Runs of stores: what a store of several elements leaves, and a store through a part that is lent. Assumes nothing.
 use Prim.Native.Nat.{ℕ, zero, suc, _+_, _-_, _≤_, _<_}
-use mathlib.Core.Path.{_≡_, refl, sym, _∙_}
+use mathlib.Core.Path.{_≡_, refl, sym, ap, _∙_}
 use mathlib.Core.List.{List, [], _∷_, _++_, append-assoc, append-nil}
 use native.Mathlib.Omega.{arith}
 use native.Mathlib.Nat.{add-zero, add-suc, suc-add, not-suc-le-zero}
 use lib.ListN.{length, take, drop, getD, set, length-set, length-drop, drop-of-length-le, take-append-drop}
-use lib.Seq.{sets, sets-eq, length-take-le, drop-drop, take-set-le, drop-set-lt, getD-set-same, getD-set-other, take-length, take-all}
+use lib.Seq.{sets, sets-eq, length-take-le, drop-drop, take-set-le, drop-set-lt, getD-set-same, getD-set-other, take-length, take-all, set-comm}
 use borrow.Rule.Slice.PartMut.{putMid}
 
 module _ {A : Type 0} where
@@ -74,3 +74,14 @@ module _ {A : Type 0} where
       let n : length m ≡ k = length-take-le k (drop i l) (rw length-drop (omega arith)) in
       sets-eq m l i (omega arith)
       ∙ rw (n, ← drop-drop, append-assoc, take-append-drop k (drop i l), take-append-drop i l)
+
+  -- runs that do not touch each other, in either order
+  set-sets : (ws l : List A) (i j : ℕ) (v : A) → i < j → sets (set l i v) j ws ≡ set (sets l j ws) i v
+  set-sets [] l i j v h = refl
+  set-sets (w ∷ ws) l i j v h =
+      ap (λ (m : List A). sets m (suc j) ws) (set-comm l i j v w (λ e. omega arith)) ∙ set-sets ws (set l j w) i (suc j) v (omega arith)
+
+  pub sets-comm : (vs ws l : List A) (i j : ℕ) → i + length vs ≤ j → sets (sets l i vs) j ws ≡ sets (sets l j ws) i vs
+  sets-comm [] ws l i j h = refl
+  sets-comm (v ∷ vs) ws l i j h =
+      sets-comm vs ws (set l i v) (suc i) j (omega arith) ∙ ap (λ (m : List A). sets m (suc i) vs) (set-sets ws l i j v (omega arith))

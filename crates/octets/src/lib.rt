@@ -1,6 +1,7 @@
 // Numbers of the wire, most significant byte first, read from and written to slices of bytes.
 ghost use mathlib.Core.Path.{_≡_};
 ghost use mathlib.Core.Bool.{_&&_};
+ghost use mathlib.Core.List.{[], _∷_};
 ghost use Prim.Native.Nat.{_+_, _*_, _≤_};
 ghost use lib.ListN.{length};
 ghost use lib.Dec.{eqb};
@@ -35,6 +36,13 @@ pub fn be32(s: &[u8], at: usize) -> u32
     ensures { λ r. ⌜ r ≡ be32At (now (s .entry)) at ⌝ }
 {
     quad(s[at], s[at + 1], s[at + 2], s[at + 3])
+}
+
+pub fn put8(s: &mut [u8], at: usize, v: u8)
+    requires { ⌜ at + 1 ≤ length (now s) ⌝ }
+    ensures { λ _. ⌜ now (s .exit) ≡ sets (now (s .entry)) at (v ∷ []) ⌝ }
+{
+    s[at] = v;
 }
 
 // The two bytes of v, stored from place at on: division, and not shifts, compiles to a byte swap and one store.
