@@ -12,7 +12,7 @@ use lib.ListN.{length, getD, List·getD-eq-default}
 use Rattle.laws.specs.Lists.{all}
 use Rattle.laws.proofs.Conds.{and-left, and-right}
 use Rattle.laws.proofs.Loops.{all-at}
-use Rattle.laws.proofs.Tables.{or-cases}
+use Rattle.laws.proofs.Tables.{or-cases, clash, getD-any}
 use Rattle.heartbeat.specs.Beat.{formOf, beatOf}
 use Rattle.heartbeat.specs.declared.Seconds.{Seconds}
 use Rattle.heartbeat.specs.declared.Heartbeat.{Heartbeat}
@@ -55,11 +55,17 @@ live-out cs n e h = let k : length cs ≤ n = omega arith in ap (λ (c : Connect
 pub live-in : (cs : List Connection) (n : ℕ) (d : Connection) → n < length cs → getD cs n d .live ≡ liveAt cs n
 unfolding liveAt
 live-in cs n d h = ap (λ (c : Connection). c .live) (getD-any cs n d closed h)
+
+-- an open connection has a number of the list
+pub live-below : (cs : List Connection) (n : ℕ) → liveAt cs n ≡ true → n < length cs
+unfolding liveAt
+live-below cs n h = go (ltb n (length cs)) refl
   where
-    getD-any : {A : Type 0} (l : List A) (n : ℕ) (a b : A) → n < length l → getD l n a ≡ getD l n b
-    getD-any [] n a b h = absurd (not-suc-le-zero h)
-    getD-any (x ∷ l) zero a b h = refl
-    getD-any (x ∷ l) (suc n) a b h = getD-any l n a b (le-of-suc-le-suc h)
+    go : (t : Bool) → ltb n (length cs) ≡ t → n < length cs
+    go true e = ltb-true n (length cs) e
+    go false e =
+        let k : length cs ≤ n = ltb-false n (length cs) e in
+        clash (n < length cs) (getD cs n closed .live) h (ap (λ (c : Connection). c .live) (List·getD-eq-default cs closed k))
 
 -- ---- the step fits
 pub fit-at : (step : ℕ) (cs : List Connection) (i : ℕ) (d : Connection) → all (fitsStep step) cs ≡ true → i < length cs → fitsStep step (getD cs i d) ≡ true

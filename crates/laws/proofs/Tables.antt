@@ -8,7 +8,7 @@ use native.Mathlib.Nat.{not-suc-le-zero, le-of-suc-le-suc}
 use native.Mathlib.Omega.{arith}
 use borrow.Author.Tests.{lt-ltb, le-ltb, ltb-true, ltb-false, eq-eqb, ne-eqb, eqb-true, eqb-false}
 use lib.Dec.{ltb, eqb}
-use lib.ListN.{length, set, getD}
+use lib.ListN.{length, set, getD, length-map}
 use Rattle.laws.specs.Lists.{all, any, allPairs, index}
 use Rattle.laws.proofs.Conds.{and-left, and-right}
 
@@ -106,3 +106,13 @@ module _ {A : Type 0} where
   pub map-map : {B C : Type 0} (f : A → B) (g : B → C) (l : List A) → map g (map f l) ≡ map (λ (x : A). g (f x)) l
   map-map f g [] = refl
   map-map f g (x ∷ l) = rw (map-map f g l)
+
+  -- within a list the default is any
+  pub getD-any : (l : List A) (n : ℕ) (a b : A) → n < length l → getD l n a ≡ getD l n b
+  getD-any [] n a b h = absurd (not-suc-le-zero h)
+  getD-any (x ∷ l) zero a b h = refl
+  getD-any (x ∷ l) (suc n) a b h = getD-any l n a b (le-of-suc-le-suc h)
+
+-- what owning a struct tells of a field that is an array of structs stands at `map` of the struct's parts over the list
+pub length-mapped : (X Y : Type 0) (f : X → Y) (l : List X) (n : ℕ) → length (map f l) ≡ n → length l ≡ n
+length-mapped X Y f l n p = sym (length-map l f) ∙ p

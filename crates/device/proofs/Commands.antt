@@ -1,0 +1,202 @@
+-- Each outcome of a command, from what led to it. Assumes nothing.
+use Prim.Native.Nat.{ℕ, _+_, _-_, _<_, _≤_}
+use mathlib.Core.Path.{_≡_, refl, sym, ap, _∙_}
+use mathlib.Core.Bool.{Bool, true, false, cond, not, _&&_, _||_, or-false}
+use mathlib.Core.List.{List, [], _∷_, map}
+use native.Mathlib.Omega.{arith}
+use borrow.Author.Tests.{le-leb, lt-leb, lt-ltb, le-ltb, eq-eqb, ne-eqb, not-true, not-false}
+use lib.Dec.{eqb, leb, ltb}
+use lib.ListN.{length, getD, set}
+use Rattle.laws.specs.Lists.{any}
+use Rattle.laws.proofs.Tables.{any-index}
+use Rattle.octets.specs.Numbers.{be32At}
+use Rattle.subscription.specs.State.{isMute, isTwin, isUnused, twinAt, lowestUnused, free, markedOf}
+use Rattle.subscription.specs.declared.Subscription.{Subscription}
+use Rattle.objects.specs.Methods.{classMethod, lockableMethod, lockMethod, unlockMethod, getMethod, setMethod, addMethod, removeMethod, placeOf, isManager, isObject, isTelling, isLocking, isMuting, isSubscribing, hasMethod}
+use Rattle.objects.specs.Tests.{isForbidden, countOf, lengthOf, isPairBad, isMalformed, entryOf, withContext, isStrange, isEmitterBad, isMuteValue, isValueBad}
+use Rattle.objects.specs.Answers.{classOf, identificationOf, replyOf, failedOf, toldOf}
+use Rattle.objects.specs.declared.Answer.{Answer}
+use Rattle.holders.specs.Holders.{ownerOf, isOther}
+use Rattle.device.specs.State.{withSubscriptions, withHolders}
+use Rattle.device.specs.Run.{holderAt, muteAt, isHeldByOther, isSubscribed, isOutOfTurn, isFull, statusOf, mutedOf, doneOf, answerOf, unchanged, ranBy, runOf}
+use Rattle.device.specs.declared.Device.{Device}
+use Rattle.device.specs.declared.Ran.{Ran}
+
+-- ---- from the status to the outcome
+pub ran-failed : (d : Device) (n t m count : ℕ) (part : List ℕ) (s : ℕ) → statusOf d n t m count part ≡ s → eqb s 0 ≡ false → (a : Answer) → a ≡ failedOf s → unchanged d a ≡ runOf d n t m count part
+unfolding runOf ranBy
+ran-failed d n t m count part s e z a q = rw (e, z, q)
+
+pub ran-done : (d : Device) (n t m count : ℕ) (part : List ℕ) → statusOf d n t m count part ≡ 0 → _≡_ {A = Ran} (record { device = doneOf d n t m part; answer = answerOf d t m }) (runOf d n t m count part)
+unfolding runOf ranBy
+ran-done d n t m count part e = rw e
+
+-- ---- a mute
+pub mute-is : (at : ℕ) → at < 8 → isMute (4097 + at) ≡ true
+unfolding isMute
+mute-is at h = rw (le-leb 4097 (4097 + at) (omega arith), le-leb (4097 + at) 4104 (omega arith))
+
+manager-not : (at : ℕ) → isManager (4097 + at) ≡ false
+unfolding isManager
+manager-not at = rw (ne-eqb (4097 + at) 1 (λ e. omega arith), ne-eqb (4097 + at) 4 (λ e. omega arith))
+
+pub place-of : (at : ℕ) → placeOf (4097 + at) ≡ at
+unfolding placeOf
+place-of at = omega arith
+
+module _ (d : Device) (n at : ℕ) (h : at < 8) where
+  lock-status : statusOf d n (4097 + at) lockMethod 0 [] ≡ cond (isOther (getD (d .holders) at 0) n) 3 0
+  unfolding statusOf isObject hasMethod isTelling isLocking isForbidden isMalformed countOf lengthOf isPairBad isHeldByOther holderAt isEmitterBad isSubscribing isValueBad isOutOfTurn isFull
+  lock-status = rw (manager-not at, mute-is at h, place-of at)
+
+  unlock-status : statusOf d n (4097 + at) unlockMethod 0 [] ≡ cond (isOther (getD (d .holders) at 0) n) 3 (cond (eqb (getD (d .holders) at 0) 0) 9 0)
+  unfolding statusOf isObject hasMethod isTelling isLocking isForbidden isMalformed countOf lengthOf isPairBad isHeldByOther holderAt isEmitterBad isSubscribing isValueBad isOutOfTurn isFull
+  unlock-status = simp (manager-not at, mute-is at h, place-of at, or-false)
+
+  pub get-status : statusOf d n (4097 + at) getMethod 0 [] ≡ 0
+  unfolding statusOf isObject hasMethod isTelling isLocking isMuting isForbidden isMalformed countOf lengthOf isPairBad isHeldByOther isEmitterBad isSubscribing isValueBad isOutOfTurn isFull
+  get-status = rw (manager-not at, mute-is at h)
+
+  set-status : (v : ℕ) → statusOf d n (4097 + at) setMethod 1 (v ∷ []) ≡ cond (isOther (getD (d .holders) at 0) n) 3 (cond (not (isMuteValue v)) 7 0)
+  unfolding statusOf isObject hasMethod isTelling isLocking isMuting isForbidden isMalformed countOf lengthOf isPairBad isHeldByOther holderAt isEmitterBad isSubscribing isValueBad isOutOfTurn isFull
+  set-status v = rw (manager-not at, mute-is at h, place-of at)
+
+  module _ (b : Bool) (q : b ≡ isOther (getD (d .holders) at 0) n) where
+    pub lock-other : b ≡ true → (a : Answer) → a ≡ failedOf 3 → unchanged d a ≡ runOf d n (4097 + at) lockMethod 0 []
+    lock-other t a e = ran-failed d n (4097 + at) lockMethod 0 [] 3 (lock-status ∙ rw (← q, t)) refl a e
+
+    pub lock-done : b ≡ false → (o : ℕ) → o ≡ ownerOf n → (a : Answer) → a ≡ toldOf [] → _≡_ {A = Ran} (record { device = withHolders d (set (d .holders) at o); answer = a }) (runOf d n (4097 + at) lockMethod 0 [])
+    unfolding doneOf answerOf replyOf
+    lock-done t o p a e = rw (p, e) (does ∙ ran-done d n (4097 + at) lockMethod 0 [] (lock-status ∙ rw (← q, t)))
+      where
+        does : _≡_ {A = Ran} (record { device = withHolders d (set (d .holders) at (ownerOf n)); answer = toldOf [] }) (record { device = doneOf d n (4097 + at) lockMethod []; answer = answerOf d (4097 + at) lockMethod })
+        does = rw (place-of at)
+
+    pub unlock-other : b ≡ true → (a : Answer) → a ≡ failedOf 3 → unchanged d a ≡ runOf d n (4097 + at) unlockMethod 0 []
+    unlock-other t a e = ran-failed d n (4097 + at) unlockMethod 0 [] 3 (unlock-status ∙ rw (← q, t)) refl a e
+
+    pub unlock-unheld : b ≡ false → getD (d .holders) at 0 ≡ 0 → (a : Answer) → a ≡ failedOf 9 → unchanged d a ≡ runOf d n (4097 + at) unlockMethod 0 []
+    unlock-unheld t z a e =
+        ran-failed d n (4097 + at) unlockMethod 0 [] 9 (unlock-status ∙ rw (← q, t, eq-eqb (getD (d .holders) at 0) 0 z)) refl a e
+
+    pub unlock-done : b ≡ false → (getD (d .holders) at 0 ≡ 0 → ⊥) → (a : Answer) → a ≡ toldOf [] → _≡_ {A = Ran} (record { device = withHolders d (set (d .holders) at 0); answer = a }) (runOf d n (4097 + at) unlockMethod 0 [])
+    unfolding doneOf answerOf replyOf
+    unlock-done t z a e =
+        rw e (does ∙ ran-done d n (4097 + at) unlockMethod 0 [] (unlock-status ∙ rw (← q, t, ne-eqb (getD (d .holders) at 0) 0 z)))
+      where
+        does : _≡_ {A = Ran} (record { device = withHolders d (set (d .holders) at 0); answer = toldOf [] }) (record { device = doneOf d n (4097 + at) unlockMethod []; answer = answerOf d (4097 + at) unlockMethod })
+        does = rw (place-of at)
+
+    module _ (v : ℕ) where
+      pub set-other : b ≡ true → (a : Answer) → a ≡ failedOf 3 → unchanged d a ≡ runOf d n (4097 + at) setMethod 1 (v ∷ [])
+      set-other t a e = ran-failed d n (4097 + at) setMethod 1 (v ∷ []) 3 (set-status v ∙ rw (← q, t)) refl a e
+
+      module _ (t : b ≡ false) (g : Bool) (p : g ≡ isMuteValue v) where
+        pub set-bad : not g ≡ true → (a : Answer) → a ≡ failedOf 7 → unchanged d a ≡ runOf d n (4097 + at) setMethod 1 (v ∷ [])
+        set-bad f a e = ran-failed d n (4097 + at) setMethod 1 (v ∷ []) 7 (set-status v ∙ rw (← q, t, ← p, f)) refl a e
+
+        set-does : not g ≡ false → _≡_ {A = Ran} (record { device = mutedOf d (4097 + at) v; answer = toldOf [] }) (runOf d n (4097 + at) setMethod 1 (v ∷ []))
+        unfolding doneOf answerOf replyOf
+        set-does f = ran-done d n (4097 + at) setMethod 1 (v ∷ []) (set-status v ∙ rw (← q, t, ← p, f))
+
+        pub set-same : not g ≡ false → getD (d .mutes) at 0 ≡ v → (a : Answer) → a ≡ toldOf [] → unchanged d a ≡ runOf d n (4097 + at) setMethod 1 (v ∷ [])
+        unfolding mutedOf muteAt
+        set-same f s a e = rw e (stays ∙ set-does f)
+          where
+            stays : unchanged d (toldOf []) ≡ record { device = mutedOf d (4097 + at) v; answer = toldOf [] }
+            stays = rw (place-of at, eq-eqb (getD (d .mutes) at 0) v s)
+
+        pub set-changed : not g ≡ false → (getD (d .mutes) at 0 ≡ v → ⊥) → (ss : List Subscription) → ss ≡ map (markedOf (4097 + at)) (d .subscriptions) → (a : Answer) → a ≡ toldOf [] → _≡_ {A = Ran} (record { device = record { reading = d .reading; connections = d .connections; subscriptions = ss; mutes = set (d .mutes) at v; holders = d .holders }; answer = a }) (runOf d n (4097 + at) setMethod 1 (v ∷ []))
+        unfolding mutedOf muteAt
+        set-changed f s ss m a e = rw (e, m) (changes ∙ set-does f)
+          where
+            changes : _≡_ {A = Ran} (record { device = record { reading = d .reading; connections = d .connections; subscriptions = map (markedOf (4097 + at)) (d .subscriptions); mutes = set (d .mutes) at v; holders = d .holders }; answer = toldOf [] }) (record { device = mutedOf d (4097 + at) v; answer = toldOf [] })
+            changes = rw (place-of at, ne-eqb (getD (d .mutes) at 0) v s)
+
+-- ---- what is told
+pub told-class : (d : Device) (t : ℕ) (a : Answer) → a ≡ toldOf (identificationOf (classOf t)) → unchanged d a ≡ unchanged d (answerOf d t classMethod)
+unfolding answerOf replyOf
+told-class d t a e = rw e
+
+module _ (d : Device) (t : ℕ) (b : Bool) (q : b ≡ isMute t) where
+  pub told-lockable : b ≡ true → (a : Answer) → a ≡ toldOf (1 ∷ []) → unchanged d a ≡ unchanged d (answerOf d t lockableMethod)
+  unfolding answerOf replyOf
+  told-lockable s a e = rw (e, ← q, s)
+
+  pub told-not-lockable : b ≡ false → (a : Answer) → a ≡ toldOf (0 ∷ []) → unchanged d a ≡ unchanged d (answerOf d t lockableMethod)
+  unfolding answerOf replyOf
+  told-not-lockable s a e = rw (e, ← q, s)
+
+pub told-value : (d : Device) (at : ℕ) (a : Answer) → a ≡ toldOf (getD (d .mutes) at 0 ∷ []) → unchanged d a ≡ unchanged d (answerOf d (4097 + at) getMethod)
+unfolding answerOf replyOf muteAt
+told-value d at a e = rw (e, place-of at)
+
+-- ---- subscriptions
+-- the context makes no difference to a twin
+twin-same : (n : ℕ) (part : List ℕ) (x : ℕ) (ss : List Subscription) → twinAt (withContext (entryOf n part) x) ss ≡ twinAt (entryOf n part) ss
+unfolding isTwin
+twin-same n part x ss = refl
+
+module _ (d : Device) (n : ℕ) (part : List ℕ) where
+  add-status : isMalformed addMethod 5 part ≡ false → statusOf d n 4 addMethod 5 part ≡ cond (isStrange part) 6 (cond (not (eqb (getD part 20 0) 1)) 7 (cond (isSubscribed d n part) 9 (cond (not (any isUnused (d .subscriptions))) 10 0)))
+  unfolding statusOf isObject isManager hasMethod isTelling isLocking isMuting isForbidden isHeldByOther isEmitterBad isSubscribing isValueBad isOutOfTurn isFull
+  add-status f = simp (f, or-false)
+
+  remove-status : isMalformed removeMethod 2 part ≡ false → statusOf d n 4 removeMethod 2 part ≡ cond (isStrange part) 6 (cond (not (isSubscribed d n part)) 9 0)
+  unfolding statusOf isObject isManager hasMethod isTelling isLocking isMuting isForbidden isHeldByOther isEmitterBad isSubscribing isValueBad isOutOfTurn isFull
+  remove-status f = simp (f, or-false)
+
+  -- a search's answer is whether the subscription is held
+  module _ (x : ℕ) (s : Subscription) (es : s ≡ withContext (entryOf n part) x) (i : ℕ) (ei : i ≡ twinAt s (d .subscriptions)) (l : length (d .subscriptions) ≡ 32) where
+    place-is : i ≡ twinAt (entryOf n part) (d .subscriptions)
+    place-is = ei ∙ ap (λ (y : Subscription). twinAt y (d .subscriptions)) es ∙ twin-same n part x (d .subscriptions)
+
+    pub held-is : i < 32 → isSubscribed d n part ≡ true
+    unfolding isSubscribed
+    held-is h = rw (any-index (isTwin (entryOf n part)) (d .subscriptions), ← place-is, l) (lt-ltb i 32 h)
+
+    pub held-not : 32 ≤ i → isSubscribed d n part ≡ false
+    unfolding isSubscribed
+    held-not h = rw (any-index (isTwin (entryOf n part)) (d .subscriptions), ← place-is, l) (le-ltb i 32 h)
+
+  module _ (f : isMalformed addMethod 5 part ≡ false) (b : Bool) (q : b ≡ isStrange part) where
+    pub add-strange : b ≡ true → (a : Answer) → a ≡ failedOf 6 → unchanged d a ≡ runOf d n 4 addMethod 5 part
+    add-strange t a e = ran-failed d n 4 addMethod 5 part 6 (add-status f ∙ rw (← q, t)) refl a e
+
+    module _ (t : b ≡ false) where
+      pub add-mode : (getD part 20 0 ≡ 1 → ⊥) → (a : Answer) → a ≡ failedOf 7 → unchanged d a ≡ runOf d n 4 addMethod 5 part
+      add-mode m a e = ran-failed d n 4 addMethod 5 part 7 (add-status f ∙ rw (← q, t, ne-eqb (getD part 20 0) 1 m)) refl a e
+
+      module _ (m : getD part 20 0 ≡ 1) where
+        add-late : (g : Bool) → isSubscribed d n part ≡ g → statusOf d n 4 addMethod 5 part ≡ cond g 9 (cond (not (any isUnused (d .subscriptions))) 10 0)
+        add-late g e = add-status f ∙ rw (← q, t, eq-eqb (getD part 20 0) 1 m, e)
+
+        module _ (x : ℕ) (s : Subscription) (es : s ≡ withContext (entryOf n part) x) (i : ℕ) (ei : i ≡ twinAt s (d .subscriptions)) (l : length (d .subscriptions) ≡ 32) where
+          pub add-twin : i < 32 → (a : Answer) → a ≡ failedOf 9 → unchanged d a ≡ runOf d n 4 addMethod 5 part
+          add-twin h a e = ran-failed d n 4 addMethod 5 part 9 (add-late true (held-is x s es i ei l h)) refl a e
+
+          module _ (h : 32 ≤ i) (r : ℕ) (er : r ≡ lowestUnused (d .subscriptions)) where
+            room-is : (g : Bool) → ltb r 32 ≡ g → statusOf d n 4 addMethod 5 part ≡ cond (not g) 10 0
+            room-is g k =
+                add-late false (held-not x s es i ei l h)
+                ∙ rw (any-index isUnused (d .subscriptions), ← er, l, k)
+
+            pub add-full : 32 ≤ r → (a : Answer) → a ≡ failedOf 10 → unchanged d a ≡ runOf d n 4 addMethod 5 part
+            add-full k a e = ran-failed d n 4 addMethod 5 part 10 (room-is false (le-ltb r 32 k)) refl a e
+
+            pub add-done : r < 32 → x ≡ be32At part 16 → (a : Answer) → a ≡ toldOf [] → _≡_ {A = Ran} (record { device = withSubscriptions d (set (d .subscriptions) r s); answer = a }) (runOf d n 4 addMethod 5 part)
+            unfolding doneOf answerOf replyOf entryOf
+            add-done k ex a e = rw (e, es, ex, er) (ran-done d n 4 addMethod 5 part (room-is true (lt-ltb r 32 k)))
+
+  module _ (f : isMalformed removeMethod 2 part ≡ false) (b : Bool) (q : b ≡ isStrange part) where
+    pub remove-strange : b ≡ true → (a : Answer) → a ≡ failedOf 6 → unchanged d a ≡ runOf d n 4 removeMethod 2 part
+    remove-strange t a e = ran-failed d n 4 removeMethod 2 part 6 (remove-status f ∙ rw (← q, t)) refl a e
+
+    module _ (t : b ≡ false) (x : ℕ) (s : Subscription) (es : s ≡ withContext (entryOf n part) x) (i : ℕ) (ei : i ≡ twinAt s (d .subscriptions)) (l : length (d .subscriptions) ≡ 32) where
+      pub remove-none : 32 ≤ i → (a : Answer) → a ≡ failedOf 9 → unchanged d a ≡ runOf d n 4 removeMethod 2 part
+      remove-none h a e = ran-failed d n 4 removeMethod 2 part 9 (remove-status f ∙ rw (← q, t, held-not x s es i ei l h)) refl a e
+
+      pub remove-done : i < 32 → (a : Answer) → a ≡ toldOf [] → _≡_ {A = Ran} (record { device = withSubscriptions d (set (d .subscriptions) i free); answer = a }) (runOf d n 4 removeMethod 2 part)
+      unfolding doneOf answerOf replyOf
+      remove-done h a e =
+          rw (e, place-is x s es i ei l) (ran-done d n 4 removeMethod 2 part (remove-status f ∙ rw (← q, t, held-is x s es i ei l h)))

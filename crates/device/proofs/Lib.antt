@@ -1,0 +1,3 @@
+pub mod Times
+pub mod Commands
+pub mod Shapes

@@ -1,0 +1,107 @@
+-- Opening, closing and ticks, case by case. Assumes nothing.
+use Prim.Native.Nat.{ℕ, _^_, _<_, _≤_}
+use mathlib.Core.Path.{_≡_, refl, sym, ap, _∙_}
+use mathlib.Core.Bool.{Bool, true, false, not}
+use mathlib.Core.List.{List, map}
+use native.Mathlib.Omega.{arith}
+use borrow.Author.Tests.{le-leb, lt-leb, lt-ltb, le-ltb, not-true, not-false}
+use lib.Dec.{ltb}
+use lib.ListN.{length, getD, set}
+use lib.Seq.{set-out}
+use Rattle.laws.specs.Lists.{all, any, mask}
+use Rattle.laws.proofs.Tables.{any-index, getD-any}
+use Rattle.heartbeat.specs.declared.Heartbeat.{Heartbeat}
+use Rattle.connection.specs.State.{closed, opened, liveAt, isFree, lowestFree}
+use Rattle.connection.specs.Supervision.{fitsStep, closesAt, tickedOf, heardOf, sentOf, beatingOf}
+use Rattle.connection.specs.declared.Connection.{Connection}
+use Rattle.connection.proofs.Times.{live-below}
+use Rattle.subscription.specs.State.{sweptOf}
+use Rattle.subscription.specs.declared.Subscription.{Subscription}
+use Rattle.holders.specs.Holders.{sweptHolder}
+use Rattle.device.specs.State.{withConnections, openOf, sweepOf, closeOf, atConnection, heardAt, sentAt, beatingAt}
+use Rattle.device.specs.Time.{stepOf, advanced, tickBy, tickOf}
+use Rattle.device.specs.declared.Device.{Device}
+use Rattle.device.specs.declared.Opened.{Opened}
+use Rattle.device.specs.declared.Opening.the-variants.{Number, Full}
+use Rattle.device.specs.declared.Ticked.{Ticked}
+use Rattle.device.specs.declared.Ticking.the-variants.{Closed, ClockBack, Overrun}
+
+-- ---- one connection changed
+at-out : (f : Connection → Connection) (d : Device) (n : ℕ) → length (d .connections) ≡ 8 → 8 ≤ n → d ≡ atConnection f d n
+at-out f d n e h =
+    let k : length (d .connections) ≤ n = omega arith in
+    ap (withConnections d) (sym (set-out (d .connections) n (f (getD (d .connections) n closed)) k))
+
+at-in : (f : Connection → Connection) (d : Device) (n : ℕ) (x a : Connection) → n < length (d .connections) → x ≡ f (getD (d .connections) n a) → withConnections d (set (d .connections) n x) ≡ atConnection f d n
+at-in f d n x a h e =
+    ap (λ (y : Connection). withConnections d (set (d .connections) n y)) (e ∙ ap f (getD-any (d .connections) n a closed h))
+
+pub live-place : (cs : List Connection) (n : ℕ) (b : Bool) → b ≡ liveAt cs n → not b ≡ false → length cs ≡ 8 → n < 8
+live-place cs n b q t e = omega (arith, live-below cs n (sym q ∙ not-false b t))
+
+module _ (d : Device) (n : ℕ) where
+  pub heard-out : length (d .connections) ≡ 8 → 8 ≤ n → d ≡ heardAt d n
+  unfolding heardAt
+  heard-out e h = at-out heardOf d n e h
+
+  pub heard-in : (x a : Connection) → length (d .connections) ≡ 8 → n < 8 → x ≡ heardOf (getD (d .connections) n a) → withConnections d (set (d .connections) n x) ≡ heardAt d n
+  unfolding heardAt
+  heard-in x a l h e = at-in heardOf d n x a (omega arith) e
+
+  pub sent-out : length (d .connections) ≡ 8 → 8 ≤ n → d ≡ sentAt d n
+  unfolding sentAt
+  sent-out e h = at-out sentOf d n e h
+
+  pub sent-in : (x a : Connection) → length (d .connections) ≡ 8 → n < 8 → x ≡ sentOf (getD (d .connections) n a) → withConnections d (set (d .connections) n x) ≡ sentAt d n
+  unfolding sentAt
+  sent-in x a l h e = at-in sentOf d n x a (omega arith) e
+
+  module _ (b : Bool) (q : b ≡ liveAt (d .connections) n) where
+    pub beating-not : (h : Heartbeat) → not b ≡ true → d ≡ beatingAt d n h
+    unfolding beatingAt
+    beating-not h t = rw (← q, not-true b t)
+
+    pub beating-in : (h : Heartbeat) → not b ≡ false → (x a : Connection) → x ≡ beatingOf h (getD (d .connections) n a) → withConnections d (set (d .connections) n x) ≡ beatingAt d n h
+    unfolding beatingAt
+    beating-in h t x a e =
+        rw (← q, not-false b t) (at-in (beatingOf h) d n x a (live-below (d .connections) n (sym q ∙ not-false b t)) e)
+
+  pub close-out : length (d .connections) ≡ 8 → 8 ≤ n → (r : Device) → r ≡ sweepOf d → r ≡ closeOf d n
+  unfolding closeOf
+  close-out e h r q = let k : length (d .connections) ≤ n = omega arith in rw (set-out (d .connections) n closed k) q
+
+  pub close-in : (r : Device) → r ≡ sweepOf (withConnections d (set (d .connections) n closed)) → r ≡ closeOf d n
+  unfolding closeOf
+  close-in r q = q
+
+-- ---- opening
+module _ (d : Device) (n : ℕ) (q : n ≡ lowestFree (d .connections)) (e : length (d .connections) ≡ 8) where
+  pub open-full : 8 ≤ n → _≡_ {A = Opened} (record { device = d; answer = Full }) (openOf d)
+  unfolding openOf
+  open-full h = rw (any-index isFree (d .connections), ← q, e, le-ltb n 8 h)
+
+  pub open-done : n < 8 → _≡_ {A = Opened} (record { device = withConnections d (set (d .connections) n opened); answer = Number n }) (openOf d)
+  unfolding openOf
+  open-done h = rw (any-index isFree (d .connections), ← q, e, lt-ltb n 8 h)
+
+-- ---- sweeping
+pub swept-all : (d : Device) (ss : List Subscription) (hs : List ℕ) → ss ≡ map (sweptOf (d .connections)) (d .subscriptions) → hs ≡ map (sweptHolder (d .connections)) (d .holders) → _≡_ {A = Device} (record { reading = d .reading; connections = d .connections; subscriptions = ss; mutes = d .mutes; holders = hs }) (sweepOf d)
+unfolding sweepOf
+swept-all d ss hs p q = rw (p, q)
+
+-- ---- a tick
+pub fit-known : (step : ℕ) (cs : List Connection) (b : Bool) → b ≡ all (fitsStep step) cs → not b ≡ false → all (fitsStep step) cs ≡ true
+fit-known step cs b q t = sym q ∙ not-false b t
+
+module _ (d : Device) (reading s : ℕ) (e : s ≡ stepOf reading (d .reading)) where
+  pub tick-back : 2147483648 ≤ s → _≡_ {A = Ticked} (record { device = d; answer = ClockBack }) (tickOf d reading)
+  unfolding tickBy
+  tick-back h = rw (← e, le-leb _ _ h)
+
+  pub tick-over : (b : Bool) → s < 2147483648 → b ≡ all (fitsStep s) (d .connections) → not b ≡ true → _≡_ {A = Ticked} (record { device = d; answer = Overrun }) (tickOf d reading)
+  unfolding tickBy
+  tick-over b h q t = rw (← e, lt-leb _ _ h, ← q, not-true b t)
+
+  pub tick-done : (b : Bool) (m : ℕ) (cs : List Connection) (r : Device) → s < 2147483648 → b ≡ all (fitsStep s) (d .connections) → not b ≡ false → m ≡ mask (closesAt s) (d .connections) → cs ≡ map (tickedOf s) (d .connections) → r ≡ sweepOf (advanced d reading cs) → _≡_ {A = Ticked} (record { device = r; answer = Closed m }) (tickOf d reading)
+  unfolding tickBy
+  tick-done b m cs r h q t em ec er = rw (← e, lt-leb _ _ h, ← q, not-false b t, em, er, ec)

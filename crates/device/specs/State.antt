@@ -1,0 +1,89 @@
+-- The device: fresh, opening, closing. Document 01 'What is built' and 'Time and supervision'.
+use Prim.Native.Nat.{ℕ}
+use mathlib.Core.Bool.{Bool, true, false, cond}
+use mathlib.Core.List.{List, map}
+use lib.ListN.{getD, set, replicate}
+use Rattle.laws.specs.Lists.{any}
+use Rattle.heartbeat.specs.declared.Heartbeat.{Heartbeat}
+use Rattle.connection.specs.State.{connectionCount, closed, opened, liveAt, isFree, lowestFree}
+use Rattle.connection.specs.Supervision.{heardOf, sentOf, beatingOf}
+use Rattle.connection.specs.declared.Connection.{Connection}
+use Rattle.subscription.specs.State.{entryCount, free, sweptOf}
+use Rattle.subscription.specs.declared.Subscription.{Subscription}
+use Rattle.holders.specs.Holders.{sweptHolder}
+use Rattle.device.specs.declared.Device.{Device}
+use Rattle.device.specs.declared.Opened.{Opened}
+use Rattle.device.specs.declared.Opening.{Opening}
+use Rattle.device.specs.declared.Opening.the-variants.{Number, Full}
+
+-- "8 mutes", "Mutes start at 2 (unmuted)"
+abbrev pub muteCount : ℕ
+muteCount = 8
+
+abbrev pub unmuted : ℕ
+unmuted = 2
+
+-- "Fresh takes a first reading": "every connection closed, no lock and every entry free"
+unfoldable pub freshOf : ℕ → Device
+freshOf reading =
+    record {
+      reading = reading;
+      connections = replicate connectionCount closed;
+      subscriptions = replicate entryCount free;
+      mutes = replicate muteCount unmuted;
+      holders = replicate muteCount 0;
+    }
+
+-- a device with one part changed
+abbrev pub withConnections : Device → List Connection → Device
+withConnections d cs =
+    record { reading = d .reading; connections = cs; subscriptions = d .subscriptions; mutes = d .mutes; holders = d .holders }
+
+abbrev pub withSubscriptions : Device → List Subscription → Device
+withSubscriptions d ss =
+    record { reading = d .reading; connections = d .connections; subscriptions = ss; mutes = d .mutes; holders = d .holders }
+
+abbrev pub withHolders : Device → List ℕ → Device
+withHolders d hs =
+    record { reading = d .reading; connections = d .connections; subscriptions = d .subscriptions; mutes = d .mutes; holders = hs }
+
+-- "Opening gives the lowest free number with all counts zero"; "TableFull: opening with 8 open"
+unfoldable pub openOf : Device → Opened
+openOf d =
+    cond (any isFree (d .connections))
+    (record {
+      device = withConnections d (set (d .connections) (lowestFree (d .connections)) opened);
+      answer = Number (lowestFree (d .connections));
+    })
+    (record { device = d; answer = Full })
+
+-- whatever belongs to a connection that is not open is freed
+unfoldable pub sweepOf : Device → Device
+sweepOf d =
+    record {
+      reading = d .reading;
+      connections = d .connections;
+      subscriptions = map (sweptOf (d .connections)) (d .subscriptions);
+      mutes = d .mutes;
+      holders = map (sweptHolder (d .connections)) (d .holders);
+    }
+
+-- "A closure frees the connection's locks, entries and waiting marks, clears its counts"
+unfoldable pub closeOf : Device → ℕ → Device
+closeOf d n = sweepOf (withConnections d (set (d .connections) n closed))
+
+-- connection n changed by f; a number past the last changes nothing
+abbrev pub atConnection : (Connection → Connection) → Device → ℕ → Device
+atConnection f d n = withConnections d (set (d .connections) n (f (getD (d .connections) n closed)))
+
+-- "A sound message resets its connection's silence"
+unfoldable pub heardAt : Device → ℕ → Device
+heardAt d n = atConnection heardOf d n
+
+-- "Anything the device sends on a connection clears quiet and due there"
+unfoldable pub sentAt : Device → ℕ → Device
+sentAt d n = atConnection sentOf d n
+
+-- "A keep-alive received sets the heartbeat", on an open connection
+unfoldable pub beatingAt : Device → ℕ → Heartbeat → Device
+beatingAt d n h = cond (liveAt (d .connections) n) (atConnection (beatingOf h) d n) d

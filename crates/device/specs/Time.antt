@@ -1,0 +1,38 @@
+-- A tick: document 01 'Time and supervision' and rows 6 and 7 of 'What calls refuse'.
+use Prim.Native.Nat.{ℕ, _+_, _-_, _%_, _^_}
+use mathlib.Core.Bool.{Bool, cond}
+use mathlib.Core.List.{List, map}
+use lib.Dec.{leb}
+use Rattle.laws.specs.Lists.{all, mask}
+use Rattle.connection.specs.Supervision.{fitsStep, closesAt, tickedOf}
+use Rattle.connection.specs.declared.Connection.{Connection}
+use Rattle.device.specs.State.{sweepOf}
+use Rattle.device.specs.declared.Device.{Device}
+use Rattle.device.specs.declared.Ticked.{Ticked}
+use Rattle.device.specs.declared.Ticking.{Ticking}
+use Rattle.device.specs.declared.Ticking.the-variants.{Closed, ClockBack, Overrun}
+
+-- "The step is this reading less the last, modulo 2^32"
+abbrev pub stepOf : ℕ → ℕ → ℕ
+stepOf reading last = (reading + 2 ^ 32 - last) % 2 ^ 32
+
+-- the device at a reading, with these connections
+abbrev pub advanced : Device → ℕ → List Connection → Device
+advanced d reading cs =
+    record { reading = reading; connections = cs; subscriptions = d .subscriptions; mutes = d .mutes; holders = d .holders }
+
+-- "6 ClockBack: step of 2^31 or more", "7 Overrun: silence or quiet plus step does not fit 64 bits";
+-- "The tick's answer is a byte, bit n set for connection n closed"
+unfoldable pub tickBy : Device → ℕ → ℕ → Ticked
+tickBy d reading step =
+    cond (leb (2 ^ 31) step)
+    (record { device = d; answer = ClockBack })
+    (cond (all (fitsStep step) (d .connections))
+    (record {
+      device = sweepOf (advanced d reading (map (tickedOf step) (d .connections)));
+      answer = Closed (mask (closesAt step) (d .connections));
+    })
+    (record { device = d; answer = Overrun }))
+
+abbrev pub tickOf : Device → ℕ → Ticked
+tickOf d reading = tickBy d reading (stepOf reading (d .reading))

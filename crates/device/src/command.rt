@@ -1,0 +1,267 @@
+// The commands: each a method that takes the device and hands it back with the answer.
+use crate::Device;
+use crate::Ran;
+use objects::Answer;
+use subscription::Subscription;
+ghost use mathlib.Core.Path.{_≡_};
+ghost use mathlib.Core.Bool.{true, false};
+ghost use mathlib.Core.List.{[], _∷_};
+ghost use Prim.Native.Nat.{_+_, _<_};
+ghost use Rattle.subscription.specs.State.{firstMute};
+ghost use Rattle.objects.specs.Methods.{methodNumber, subscriptionManager, classMethod, lockableMethod, lockMethod, unlockMethod, getMethod, setMethod, addMethod, removeMethod, isObject, isTelling, isSubscribing};
+ghost use Rattle.objects.specs.Tests.{countOf, isMalformed, Allowed};
+ghost use Rattle.device.specs.Run.{answerOf, unchanged, runOf};
+
+impl Device {
+    pub fn class_identification(self, target: u32) -> Ran
+        ensures { λ r. ⌜ r ≡ unchanged self (answerOf self target classMethod) ⌝ }
+    {
+        Ran {
+            device: self,
+            answer: Answer::class(target),
+        }
+    }
+
+    pub fn lockable(self, target: u32) -> Ran
+        ensures { λ r. ⌜ r ≡ unchanged self (answerOf self target lockableMethod) ⌝ }
+    {
+        if subscription::is_mute(target) {
+            return Ran {
+                device: self,
+                answer: Answer::byte(1),
+            };
+        }
+        Ran {
+            device: self,
+            answer: Answer::byte(0),
+        }
+    }
+
+    pub fn get(self, at: usize) -> Ran
+        requires { ⌜ at < 8 ⌝ }
+        ensures { λ r. ⌜ r ≡ unchanged self (answerOf self (firstMute + at) getMethod) ⌝ }
+    {
+        let v = self.mutes[at];
+        Ran {
+            device: self,
+            answer: Answer::byte(v),
+        }
+    }
+
+    pub fn lock(mut self, n: u8, at: usize) -> Ran
+        requires { ⌜ at < 8 ⌝ }
+        ensures { λ r. ⌜ r ≡ runOf self n (firstMute + at) lockMethod 0 [] ⌝ }
+    {
+        let holder = self.holders[at];
+        if holders::is_other(holder, n) {
+            return Ran {
+                device: self,
+                answer: Answer::failed(3),
+            };
+        }
+        self.holders[at] = holders::owner(n);
+        Ran {
+            device: self,
+            answer: Answer::done(),
+        }
+    }
+
+    pub fn unlock(mut self, n: u8, at: usize) -> Ran
+        requires { ⌜ at < 8 ⌝ }
+        ensures { λ r. ⌜ r ≡ runOf self n (firstMute + at) unlockMethod 0 [] ⌝ }
+    {
+        let holder = self.holders[at];
+        if holders::is_other(holder, n) {
+            return Ran {
+                device: self,
+                answer: Answer::failed(3),
+            };
+        }
+        if holder == 0 {
+            return Ran {
+                device: self,
+                answer: Answer::failed(9),
+            };
+        }
+        self.holders[at] = 0;
+        Ran {
+            device: self,
+            answer: Answer::done(),
+        }
+    }
+
+    // A value that stays marks nothing.
+    pub fn set(mut self, n: u8, at: usize, v: u8) -> Ran
+        requires { ⌜ at < 8 ⌝ }
+        ensures { λ r. ⌜ r ≡ runOf self n (firstMute + at) setMethod 1 (v ∷ []) ⌝ }
+    {
+        let holder = self.holders[at];
+        if holders::is_other(holder, n) {
+            return Ran {
+                device: self,
+                answer: Answer::failed(3),
+            };
+        }
+        if !objects::is_mute_value(v) {
+            return Ran {
+                device: self,
+                answer: Answer::failed(7),
+            };
+        }
+        let value = self.mutes[at];
+        if value == v {
+            return Ran {
+                device: self,
+                answer: Answer::done(),
+            };
+        }
+        self.mutes[at] = v;
+        let entries = self.subscriptions;
+        let marked = subscription::all_marked(entries, subscription::FIRST_MUTE + at as u32);
+        self.subscriptions = marked;
+        Ran {
+            device: self,
+            answer: Answer::done(),
+        }
+    }
+
+    pub fn subscribe(mut self, n: u8, part: &[u8]) -> Ran
+        requires { ⌜ isMalformed addMethod 5 (now part) ≡ false ⌝ }
+        ensures { λ r. ⌜ r ≡ runOf self n subscriptionManager addMethod 5 (now (part .entry)) ⌝ }
+    {
+        if objects::is_strange(part) {
+            return Ran {
+                device: self,
+                answer: Answer::failed(6),
+            };
+        }
+        if part[20] != 1 {
+            return Ran {
+                device: self,
+                answer: Answer::failed(7),
+            };
+        }
+        let e = objects::entry(n, part, octets::be32(part, 16));
+        let entries = self.subscriptions;
+        if subscription::twin_at(entries, e) < subscription::ENTRIES {
+            return Ran {
+                device: self,
+                answer: Answer::failed(9),
+            };
+        }
+        let room = subscription::lowest_unused(entries);
+        if room >= subscription::ENTRIES {
+            return Ran {
+                device: self,
+                answer: Answer::failed(10),
+            };
+        }
+        self.subscriptions[room] = e;
+        Ran {
+            device: self,
+            answer: Answer::done(),
+        }
+    }
+
+    pub fn unsubscribe(mut self, n: u8, part: &[u8]) -> Ran
+        requires { ⌜ isMalformed removeMethod 2 (now part) ≡ false ⌝ }
+        ensures { λ r. ⌜ r ≡ runOf self n subscriptionManager removeMethod 2 (now (part .entry)) ⌝ }
+    {
+        if objects::is_strange(part) {
+            return Ran {
+                device: self,
+                answer: Answer::failed(6),
+            };
+        }
+        let e = objects::entry(n, part, 0);
+        let entries = self.subscriptions;
+        let twin = subscription::twin_at(entries, e);
+        if twin >= subscription::ENTRIES {
+            return Ran {
+                device: self,
+                answer: Answer::failed(9),
+            };
+        }
+        self.subscriptions[twin] = Subscription::FREE;
+        Ran {
+            device: self,
+            answer: Answer::done(),
+        }
+    }
+
+    fn act_mute(self, n: u8, at: usize, m: u32, part: &[u8]) -> Ran
+        requires { ⌜ (at < 8) × Allowed (firstMute + at) m (now part) × (isTelling m ≡ false) ⌝ }
+        ensures { λ r. ⌜ r ≡ runOf self n (firstMute + at) m (countOf m) (now (part .entry)) ⌝ }
+    {
+        if m == objects::LOCK {
+            return self.lock(n, at);
+        }
+        if m == objects::UNLOCK {
+            return self.unlock(n, at);
+        }
+        if m == objects::GET {
+            return self.get(at);
+        }
+        self.set(n, at, part[0])
+    }
+
+    fn act_manager(self, n: u8, m: u32, part: &[u8]) -> Ran
+        requires { ⌜ (isSubscribing m ≡ true) × (isMalformed m (countOf m) (now part) ≡ false) ⌝ }
+        ensures { λ r. ⌜ r ≡ runOf self n subscriptionManager m (countOf m) (now (part .entry)) ⌝ }
+    {
+        if m == objects::ADD {
+            return self.subscribe(n, part);
+        }
+        self.unsubscribe(n, part)
+    }
+
+    // A command that none of 5, 11, 8 and 4 stops.
+    fn act(self, n: u8, target: u32, m: u32, part: &[u8]) -> Ran
+        requires { ⌜ Allowed target m (now part) ⌝ }
+        ensures { λ r. ⌜ r ≡ runOf self n target m (countOf m) (now (part .entry)) ⌝ }
+    {
+        if m == objects::CLASS {
+            return self.class_identification(target);
+        }
+        if m == objects::LOCKABLE {
+            return self.lockable(target);
+        }
+        if subscription::is_mute(target) {
+            let at = objects::place(target);
+            return self.act_mute(n, at, m, part);
+        }
+        self.act_manager(n, m, part)
+    }
+
+    // One command of connection n; `part` is the message from the entry's parameters on, bounded by the entry's size.
+    pub fn run(self, n: u8, target: u32, level: u16, index: u16, count: u8, part: &[u8]) -> Ran
+        ensures { λ r. ⌜ r ≡ runOf self n target (methodNumber level index) count (now (part .entry)) ⌝ }
+    {
+        let m = objects::method(level, index);
+        if !objects::is_object(target) {
+            return Ran {
+                device: self,
+                answer: Answer::failed(5),
+            };
+        }
+        if !objects::has_method(target, m) {
+            return Ran {
+                device: self,
+                answer: Answer::failed(11),
+            };
+        }
+        if objects::is_forbidden(target, m) {
+            return Ran {
+                device: self,
+                answer: Answer::failed(8),
+            };
+        }
+        if objects::is_malformed(m, count, part) {
+            return Ran {
+                device: self,
+                answer: Answer::failed(4),
+            };
+        }
+        self.act(n, target, m, part)
+    }
+}
