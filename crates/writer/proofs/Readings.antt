@@ -29,7 +29,7 @@ use Rattle.layout.specs.Message.{sizeOf, message, atFront}
 use Rattle.writer.specs.Write.{leastRoom, greatestSeconds, refused, written, offered, startOf, appendSound, appendBy, appendOf, beatFits, beatBytes, keepAliveOf}
 use Rattle.writer.specs.Round.{Made, started, appended, entriesOf, entriesIn, ReadsAs}
 use Rattle.layout.proofs.Messages.{length-message}
-use Rattle.writer.proofs.Outcomes.{sound-entries, well-kind}
+use Rattle.writer.proofs.Outcomes.{sound-entries, well-kind, beat-good}
 use Rattle.writer.proofs.Walks.{fill-append, entries-append, length-entries, entries-index}
 use Rattle.writer.proofs.Heads.{Holds, message-holds}
 
@@ -240,3 +240,12 @@ beat-reads buf form value n b h =
     let s = front-holds buf keepAlive 1 (beatBytes form value) (w .1 .small) (omega arith) (omega arith) refl (beat-fill v) in
     let m = atFront (message keepAlive 1 (beatBytes form value)) buf in
     rw (w .1 .after, s .sound) (simp (eq-eqb (pduType m) keepAlive (s .type), s .body, beat-numbers v b, w .1 .size))
+
+-- zero and the largest values
+pub beat-taken : (buf : List ℕ) (form value : ℕ) → leastRoom ≤ length buf → beatFits form value ≡ true → value < 4294967296
+    → readOf (keepAliveOf buf form value .buffer) ≡ 0 ∷ (length (beatBytes form value) + 10) ∷ keepAlive ∷ 1 ∷ form ∷ value ∷ []
+unfolding written
+beat-taken buf form value room f h =
+    let g = ap (λ (o : Outcome). o .answer) (beat-good buf form value room f) in
+    let l = length-message keepAlive 1 (beatBytes form value) in
+    beat-reads buf form value (length (beatBytes form value) + 10) h (sym g ∙ rw l)

@@ -8,6 +8,8 @@ use lib.Dec.{ltb, eqb}
 use lib.ListN.{length, getD}
 use borrow.Author.Tests.{ltb-true}
 use Rattle.laws.proofs.Inverse.{undone-tells}
+use Rattle.octets.specs.Numbers.{bytes16, bytes32}
+use Rattle.heartbeat.specs.Beat.{secondsForm, millisecondsForm}
 use Rattle.frame.specs.Limits.{greatestSize}
 use Rattle.frame.specs.Header.{pduType, messageCount}
 use Rattle.frame.specs.Entry.{wellFormed}
@@ -21,14 +23,27 @@ use Rattle.writer.specs.declared.Written.{Written}
 use Rattle.writer.specs.declared.Written.the-variants.{Length, NoRoom, Fault, TooLong, BadEntry}
 use Rattle.writer.specs.Numbers.{done, noRoom, tooLong, badEntry, writtenNumbers, Outcome, outcome}
 use Rattle.layout.specs.Message.{sizeOf, message}
-use Rattle.writer.specs.Write.{leastRoom, refused, written, offered, appendSound, appendBy, appendOf}
-use Rattle.writer.specs.Round.{ReadAfterWrite, WriteAfterRead, OneResult}
-use Rattle.writer.proofs.Readings.{start-reads, append-reads, made-reads, beat-reads, sound-reads}
-use Rattle.writer.proofs.Again.{entries-again, keep-again}
+use Rattle.writer.specs.Write.{leastRoom, greatestSeconds, refused, written, offered, appendSound, appendBy, appendOf, beatFits, beatBytes}
+use Rattle.writer.specs.Round.{Made, ReadAfterWrite, WriteAfterRead, OneResult}
+use Rattle.writer.proofs.Readings.{start-reads, append-reads, made-reads, beat-reads, beat-taken, sound-reads}
+use Rattle.writer.proofs.Again.{entries-again, keep-again, made-bytes}
 
 pub read-after-write : ReadAfterWrite
+unfolding beatFits beatBytes bytes16 bytes32
 read-after-write =
-    record { start = start-reads; append = append-reads; all = λ buf kind es n after. made-reads; beat = beat-reads }
+    record {
+      start = start-reads;
+      append = append-reads;
+      all = λ buf kind es n after. made-reads;
+      bytes = λ buf kind es n after. made-bytes;
+      beat = beat-reads;
+      ends = λ buf room. (
+        beat-taken buf secondsForm 0 room refl (omega arith),
+        beat-taken buf secondsForm greatestSeconds room refl (omega arith),
+        beat-taken buf millisecondsForm 0 room refl (omega arith),
+        beat-taken buf millisecondsForm 4294967295 room refl (omega arith),
+      );
+    }
 
 pub write-after-read : WriteAfterRead
 write-after-read = record { reads = sound-reads; entries = entries-again; beat = keep-again }
@@ -56,6 +71,12 @@ one-result o a b s t p q =
     let e = p ∙ sym q in
     (written-tells a b (ap (λ (x : Outcome). x .answer) e), ap (λ (x : Outcome). x .buffer) e)
 
+one-run : (buf : List ℕ) (kind : ℕ) (es : List (List ℕ)) (m n : ℕ) (s t : List ℕ) → Made buf kind es m s → Made buf kind es n t → (m ≡ n) × (s ≡ t)
+one-run buf kind es m n s t p q =
+    let a = made-bytes p in
+    let b = made-bytes q in
+    (a .0 ∙ sym (b .0), a .1 ∙ sym (b .1))
+
 -- a sound message has room
 sound-room : (m : ℕ) (buf : List ℕ) (kind : ℕ) (e : List ℕ) → appendSound m buf kind e .answer ≡ noRoom ∷ [] → ⊥
 unfolding appendSound offered refused written
@@ -81,4 +102,4 @@ append-room buf kind e h = go (ltb (length buf) leastRoom) refl (decide buf) ref
     go false q (Sound m) s h = absurd (sound-room m buf kind e h)
 
 pub one-results : OneResult
-one-results = record { numbers = written-tells; results = one-result; room = append-room }
+one-results = record { numbers = written-tells; results = one-result; runs = one-run; room = append-room }

@@ -1,10 +1,11 @@
 -- The round trip: what the writer writes is read as it was given, and what was read is written again as it was.
-use Prim.Native.Nat.{ℕ, zero, suc, _≤_, _<_}
+use Prim.Native.Nat.{ℕ, zero, suc, _+_, _≤_, _<_}
 use mathlib.Core.Path.{_≡_}
 use mathlib.Core.List.{List, [], _∷_, _++_}
 use lib.ListN.{length, getD, take, drop}
 use Rattle.octets.specs.Numbers.{Octets}
-use Rattle.frame.specs.Limits.{response, keepAlive}
+use Rattle.heartbeat.specs.Beat.{secondsForm, millisecondsForm}
+use Rattle.frame.specs.Limits.{headerEnd, response, keepAlive}
 use Rattle.frame.specs.Header.{pduType, messageCount}
 use Rattle.frame.specs.Entry.{entrySize}
 use Rattle.frame.specs.Decide.{decide}
@@ -15,14 +16,19 @@ use Rattle.reader.specs.Read.{dataOf, readOf}
 use Rattle.reader.specs.Entry.{fieldsOf, entryAt, entryOf, partOf}
 use Rattle.writer.specs.declared.Written.{Written}
 use Rattle.writer.specs.Numbers.{done, noRoom, writtenNumbers, Outcome, outcome}
-use Rattle.layout.specs.Message.{atFront}
-use Rattle.writer.specs.Write.{leastRoom, written, startOf, appendOf, keepAliveOf}
+use Rattle.layout.specs.Message.{message, atFront}
+use Rattle.writer.specs.Write.{leastRoom, greatestSeconds, written, startOf, appendOf, keepAliveOf}
 
 -- a start and appends into buf, none refused, with the entries es: the last answers n, and leaves the buffer after
 pub data Made (buf : List ℕ) (kind : ℕ) : List (List ℕ) → ℕ → List ℕ → Type 0 where
   started : (e : List ℕ) (n : ℕ) → startOf buf kind e .answer ≡ done ∷ n ∷ [] → Made buf kind (e ∷ []) n (startOf buf kind e .buffer)
   appended : (es : List (List ℕ)) (m : ℕ) (before e : List ℕ) (n : ℕ) → Made buf kind es m before
       → appendOf before kind e .answer ≡ done ∷ n ∷ [] → Made buf kind (es ++ (e ∷ [])) n (appendOf before kind e .buffer)
+
+-- entries, one behind another
+abbrev pub joined : List (List ℕ) → List ℕ
+joined [] = []
+joined (e ∷ es) = e ++ joined es
 
 -- count entries of that type, one behind another
 unfoldable pub entriesOf : ℕ → ℕ → List ℕ → List (List ℕ)
@@ -48,9 +54,18 @@ pub record ReadAfterWrite : Type 0 where
   pub append : (buf : List ℕ) (m type : ℕ) (es : List (List ℕ)) (kind : ℕ) (e : List ℕ) (n : ℕ) → ReadsAs buf m type es
       → appendOf buf kind e .answer ≡ done ∷ n ∷ [] → ReadsAs (appendOf buf kind e .buffer) n type (es ++ (e ∷ []))
   pub all : (buf : List ℕ) (kind : ℕ) (es : List (List ℕ)) (n : ℕ) (after : List ℕ) → Made buf kind es n after → ReadsAs after n kind es
+  -- the bytes: the message of those entries at the buffer's front
+  pub bytes : (buf : List ℕ) (kind : ℕ) (es : List (List ℕ)) (n : ℕ) (after : List ℕ) → Made buf kind es n after
+      → (n ≡ length (joined es) + headerEnd) × (after ≡ atFront (message kind (length es) (joined es)) buf)
   pub beat : (buf : List ℕ) (form value n : ℕ) → value < 4294967296
       → keepAliveOf buf form value .answer ≡ done ∷ n ∷ []
       → readOf (keepAliveOf buf form value .buffer) ≡ 0 ∷ n ∷ keepAlive ∷ 1 ∷ form ∷ value ∷ []
+  -- zero and the largest values too
+  pub ends : (buf : List ℕ) → leastRoom ≤ length buf
+      → (readOf (keepAliveOf buf secondsForm 0 .buffer) ≡ 0 ∷ 12 ∷ keepAlive ∷ 1 ∷ secondsForm ∷ 0 ∷ [])
+      × (readOf (keepAliveOf buf secondsForm greatestSeconds .buffer) ≡ 0 ∷ 12 ∷ keepAlive ∷ 1 ∷ secondsForm ∷ greatestSeconds ∷ [])
+      × (readOf (keepAliveOf buf millisecondsForm 0 .buffer) ≡ 0 ∷ 14 ∷ keepAlive ∷ 1 ∷ millisecondsForm ∷ 0 ∷ [])
+      × (readOf (keepAliveOf buf millisecondsForm 4294967295 .buffer) ≡ 0 ∷ 14 ∷ keepAlive ∷ 1 ∷ millisecondsForm ∷ 4294967295 ∷ [])
 
 -- what was read is written again as the same bytes, into any buffer that has room
 pub record WriteAfterRead : Type 0 where
@@ -65,5 +80,6 @@ pub record WriteAfterRead : Type 0 where
 pub record OneResult : Type 0 where
   pub numbers : (a b : Written) → writtenNumbers a ≡ writtenNumbers b → a ≡ b
   pub results : (o : Outcome) (a b : Written) (s t : List ℕ) → outcome a s ≡ o → outcome b t ≡ o → (a ≡ b) × (s ≡ t)
+  pub runs : (buf : List ℕ) (kind : ℕ) (es : List (List ℕ)) (m n : ℕ) (s t : List ℕ) → Made buf kind es m s → Made buf kind es n t → (m ≡ n) × (s ≡ t)
   -- 2,049 bytes always decide: append refuses by 4 only where the buffer is under 2,049
   pub room : (buf : List ℕ) (kind : ℕ) (e : List ℕ) → appendOf buf kind e .answer ≡ noRoom ∷ [] → length buf < leastRoom

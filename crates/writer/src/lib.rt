@@ -3,9 +3,7 @@ ghost use mathlib.Core.Path.{_≡_};
 ghost use mathlib.Core.List.{_++_};
 ghost use Prim.Native.Nat.{_+_, _<_, _≤_};
 ghost use lib.ListN.{length};
-ghost use lib.Seq.{sets};
-ghost use Rattle.octets.specs.Numbers.{be16At, bytes16, bytes32};
-ghost use Rattle.frame.specs.Limits.{headerEnd, leastSize, greatestSize, keepAlive};
+ghost use Rattle.frame.specs.Limits.{headerEnd, greatestSize};
 ghost use Rattle.frame.specs.Header.{messageCount};
 ghost use Rattle.frame.specs.Decide.{decide};
 ghost use Rattle.frame.specs.declared.Decision.the-variants.{Sound};
@@ -13,7 +11,7 @@ ghost use Rattle.reader.specs.Read.{dataOf};
 ghost use Rattle.writer.specs.Numbers.{outcome};
 ghost use Rattle.layout.specs.Message.{sizeOf, message, atFront};
 ghost use Rattle.writer.specs.Round.{ReadAfterWrite, WriteAfterRead, OneResult};
-ghost use Rattle.writer.specs.Write.{leastRoom, greatestSeconds, startOf, appendSound, appendOf, keepAliveOf};
+ghost use Rattle.writer.specs.Write.{leastRoom, startOf, appendSound, appendOf, keepAliveOf};
 
 // Room for the longest message.
 pub const ROOM: usize = 2049;
