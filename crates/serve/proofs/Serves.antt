@@ -146,3 +146,12 @@ module _ (n kind count : ℕ) (body first : List ℕ) (fresh : Device) (out : Li
         go : (b : Bool) → cond b out out ≡ out
         go true = refl
         go false = refl
+
+-- each response has at most 22 bytes
+pub responses-few : (k : ℕ) (d : Device) (n kind : ℕ) (t : List ℕ) → length (responsesOf k d n kind t) ≤ k * 22
+unfolding responsesOf
+responses-few zero d n kind t = omega arith
+responses-few (suc k) d n kind t =
+    let d' = ranFirst d n kind t .device in
+    let t' = drop (entrySize kind t) t in
+    omega (arith, responses-few k d' n kind t', length-append (responseTo d n kind t) (responsesOf k d' n kind t'), length-to d n kind t, first-fits d n kind t .low)

@@ -1,0 +1,41 @@
+-- What a sound message does to the device, and the reply to it: document 01 'Delivering'.
+use Prim.Native.Nat.{ℕ}
+use mathlib.Core.List.{List, []}
+use mathlib.Core.Bool.{cond}
+use lib.ListN.{drop}
+use lib.Dec.{ltb, eqb}
+use Rattle.heartbeat.specs.declared.Heartbeat.{Heartbeat}
+use Rattle.frame.specs.Limits.{headerEnd, notification, response, keepAlive}
+use Rattle.frame.specs.Header.{pduType, messageCount}
+use Rattle.fields.specs.Fields.{heartbeatOf}
+use Rattle.layout.specs.Message.{message}
+use Rattle.device.specs.State.{heardAt, sentAt, beatingAt}
+use Rattle.device.specs.declared.Device.{Device}
+use Rattle.replies.specs.Bytes.{keepAliveBytes}
+use Rattle.serve.specs.Serve.{lastOf, responsesOf}
+
+-- the device, and the reply's bytes: none where there is no reply
+pub record Ruled : Type 0 where
+  pub device : Device
+  pub reply : List ℕ
+
+abbrev pub ruled : Device → List ℕ → Ruled
+ruled d reply = record { device = d; reply = reply }
+
+-- "type 1 gets one response message with as many entries, in order"; "Type 0 is run and gets no reply";
+-- "Anything the device sends on a connection clears quiet and due there"
+unfoldable pub commandsOf : Device → ℕ → ℕ → ℕ → List ℕ → Ruled
+commandsOf d n kind count t =
+    cond (eqb kind 0) (ruled (lastOf count d n kind t) [])
+    (ruled (sentAt (lastOf count d n kind t) n) (message response count (responsesOf count d n kind t)))
+
+-- "the device answers in the same form with the same value, zero too"
+unfoldable pub beatOf : Device → ℕ → Heartbeat → Ruled
+beatOf d n h = ruled (beatingAt d n h) (keepAliveBytes h)
+
+-- "A sound message resets its connection's silence. Notifications and responses received do no more"; m is the whole message
+unfoldable pub soundOf : Device → ℕ → List ℕ → Ruled
+soundOf d n m =
+    cond (eqb (pduType m) keepAlive) (beatOf d n (heartbeatOf (drop headerEnd m)))
+    (cond (ltb (pduType m) notification) (commandsOf (heardAt d n) n (pduType m) (messageCount m) (drop headerEnd m))
+    (ruled (heardAt d n) []))
