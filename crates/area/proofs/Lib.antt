@@ -1,2 +1,3 @@
 pub mod Sounds
 pub mod Clears
+pub mod Counts

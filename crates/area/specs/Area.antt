@@ -5,8 +5,9 @@ use mathlib.Core.List.{List, [], _∷_}
 use mathlib.Core.Bool.{Bool, cond, true, false, not, _&&_}
 use lib.ListN.{length, take, drop}
 use lib.Seq.{sets}
-use lib.Dec.{eqb}
+use lib.Dec.{eqb, leb}
 use Rattle.octets.specs.Zeros.{zeros, allZero}
+use Rattle.frame.specs.Limits.{greatestSize}
 use Rattle.frame.specs.Decide.{decide, settled}
 
 -- "8 connections of 2,049 bytes"
@@ -55,3 +56,12 @@ unfoldable pub heldKept : List Bool → List ℕ → List ℕ
 heldKept [] held = held
 heldKept (live ∷ lives) [] = []
 heldKept (live ∷ lives) (k ∷ held) = cond live k 0 ∷ heldKept lives held
+
+-- "a closed connection is all zero; undecided bytes at most 2,048", of one count
+unfoldable pub countObeys : Bool → ℕ → Bool
+countObeys live k = cond live (leb k greatestSize) (eqb k 0)
+
+unfoldable pub heldObeys : List Bool → List ℕ → Bool
+heldObeys [] held = true
+heldObeys (live ∷ lives) [] = true
+heldObeys (live ∷ lives) (k ∷ held) = countObeys live k && heldObeys lives held

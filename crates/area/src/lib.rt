@@ -3,7 +3,7 @@ ghost use mathlib.Core.Path.{_≡_};
 ghost use mathlib.Core.Bool.{cond};
 ghost use Prim.Native.Nat.{_+_, _≤_};
 ghost use lib.ListN.{length};
-ghost use Rattle.area.specs.Area.{partBytes, areaBytes, partAt, partSound, areaSound, partCleared, closedCleared};
+ghost use Rattle.area.specs.Area.{partBytes, areaBytes, partAt, partSound, areaSound, partCleared, closedCleared, heldKept, countObeys, heldObeys};
 
 pub const CONNECTIONS: usize = 8;
 
@@ -84,4 +84,46 @@ pub fn clear_closed(area: &mut [u8], lives: [bool; 8])
         clear_unless(area, n, lives[n]);
         n += 1;
     }
+}
+
+fn count_obeys(live: bool, k: u16) -> bool
+    ensures { λ r. ⌜ r ≡ countObeys live k ⌝ }
+{
+    if live {
+        return k as u32 <= frame::GREATEST_SIZE;
+    }
+    k == 0
+}
+
+// Every count of undecided bytes keeps the record rules.
+pub fn held_obey(lives: [bool; 8], held: [u16; 8]) -> bool
+    ensures { λ r. ⌜ r ≡ heldObeys lives held ⌝ }
+{
+    let mut n: usize = 0;
+    while n < CONNECTIONS {
+        if !count_obeys(lives[n], held[n]) {
+            return false;
+        }
+        n += 1;
+    }
+    true
+}
+
+fn count_kept(live: bool, k: u16) -> u16
+    ensures { λ r. ⌜ r ≡ cond live k 0 ⌝ }
+{
+    if live { k } else { 0 }
+}
+
+// The count of each connection that is not open 0.
+pub fn held_kept(lives: [bool; 8], held: [u16; 8]) -> [u16; 8]
+    ensures { λ r. ⌜ r ≡ heldKept lives held ⌝ }
+{
+    let mut out = held;
+    let mut n: usize = 0;
+    while n < CONNECTIONS {
+        out[n] = count_kept(lives[n], held[n]);
+        n += 1;
+    }
+    out
 }

@@ -1,0 +1,5 @@
+pub mod States
+pub mod Gathers
+pub mod Lies
+pub mod Delivers
+pub mod Takes

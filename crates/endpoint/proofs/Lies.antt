@@ -1,0 +1,65 @@
+-- What a record that obeys and an area that row 2 does not refuse say of one connection. Assumes nothing.
+use Prim.Native.Nat.{ℕ, zero, suc, _+_, _≤_, _<_}
+use mathlib.Core.Path.{_≡_, refl, sym, ap, _∙_}
+use mathlib.Core.Bool.{Bool, cond, true, false, not, _&&_, true≢false}
+use mathlib.Core.List.{List, [], _∷_}
+use native.Mathlib.Omega.{arith}
+use native.Mathlib.Nat.{not-suc-le-zero, le-of-suc-le-suc}
+use lib.Dec.{eqb, leb}
+use lib.ListN.{length, take, drop, getD}
+use lib.Seq.{take-take, drop-drop}
+use borrow.Author.Tests.{leb-true, eqb-true, not-true}
+use Rattle.laws.proofs.Conds.{and-left, and-right}
+use Rattle.octets.specs.Zeros.{allZero}
+use Rattle.frame.specs.Limits.{greatestSize}
+use Rattle.frame.specs.Decide.{decide, settled}
+use Rattle.area.specs.Area.{partBytes, areaBytes, partAt, partSound, partsSound, areaSound, undecidedOf, countObeys, heldObeys}
+use Rattle.device.specs.Rules.{deviceObeys}
+use Rattle.endpoint.specs.State.{livesIn, recordObeys}
+use Rattle.endpoint.specs.Deliver.{heldAt, Lying}
+use Rattle.endpoint.specs.declared.Record.{Record}
+use Rattle.endpoint.proofs.States.{area-long}
+
+count-few : (live : Bool) (k : ℕ) → countObeys live k ≡ true → k ≤ greatestSize
+unfolding countObeys
+count-few true k e = leb-true k greatestSize e
+count-few false k e = omega (arith, eqb-true k 0 e)
+
+held-few : (lives : List Bool) (held : List ℕ) (n : ℕ) → heldObeys lives held ≡ true → n < length lives → getD held n 0 ≤ greatestSize
+unfolding heldObeys
+held-few [] held n e h = absurd (not-suc-le-zero h)
+held-few (b ∷ lives) [] n e h = omega arith
+held-few (b ∷ lives) (k ∷ held) zero e h = count-few b k (and-left (countObeys b k) (heldObeys lives held) e)
+held-few (b ∷ lives) (k ∷ held) (suc n) e h = held-few lives held n (and-right (countObeys b k) (heldObeys lives held) e) (le-of-suc-le-suc h)
+
+part-at : (held area : List ℕ) (n : ℕ) → partsSound held area ≡ true → n < length held
+    → partSound (getD held n 0) (take partBytes (drop (partAt n) area)) ≡ true
+unfolding partsSound
+part-at [] area n e h = absurd (not-suc-le-zero h)
+part-at (k ∷ held) area zero e h = and-left (partSound k (take partBytes area)) (partsSound held (drop partBytes area)) e
+part-at (k ∷ held) area (suc n) e h =
+    let p : partBytes + partAt n ≡ partAt (suc n) = omega arith in
+    let r = part-at held (drop partBytes area) n (and-right (partSound k (take partBytes area)) (partsSound held (drop partBytes area)) e) (le-of-suc-le-suc h) in
+    rw (drop-drop (partAt n) partBytes area, p) at r
+
+waits-at : (held area : List ℕ) (n : ℕ) → areaSound held area ≡ true → n < length held → getD held n 0 ≤ greatestSize
+    → settled (decide (undecidedOf area n (getD held n 0))) ≡ false
+unfolding areaSound undecidedOf partSound
+waits-at held area n e h f =
+    let k = getD held n 0 in
+    let x = drop (partAt n) area in
+    let s = sounds (eqb (length area) areaBytes) (partsSound held area) e in
+    let t : take k (take partBytes x) ≡ take k x = take-take k partBytes x (omega arith) in
+    not-true (settled (decide (take k x)))
+    (rw t at (and-left (not (settled (decide (take k (take partBytes x))))) (allZero (drop k (take partBytes x))) (part-at held area n s h)))
+  where
+    sounds : (b p : Bool) → cond b p false ≡ true → p ≡ true
+    sounds true p e = e
+    sounds false p e = absurd (true≢false (sym e))
+
+pub lies : (r : Record) (area : List ℕ) (n : ℕ) → recordObeys r ≡ true → areaSound (r .held) area ≡ true → n < 8
+    → length (livesIn (r .device)) ≡ 8 → length (r .held) ≡ 8 → Lying area n (heldAt r n)
+unfolding recordObeys
+lies r area n o a h l m =
+    let f = held-few (livesIn (r .device)) (r .held) n (and-right (deviceObeys (r .device)) (heldObeys (livesIn (r .device)) (r .held)) o) (omega arith) in
+    record { number = h; long = area-long (r .held) area a; few = f; waiting = waits-at (r .held) area n a (omega arith) f }

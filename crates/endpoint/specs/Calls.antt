@@ -1,0 +1,61 @@
+-- Opening, closing, ticking and clearing: document 01 'Time and supervision' and 'What calls refuse'.
+use Prim.Native.Nat.{ℕ}
+use mathlib.Core.Bool.{Bool, cond, not}
+use mathlib.Core.List.{List, [], _∷_}
+use lib.ListN.{length}
+use lib.Dec.{eqb}
+use Rattle.octets.specs.Zeros.{zeros}
+use Rattle.area.specs.Area.{areaBytes, areaSound, partCleared, closedCleared, heldKept}
+use Rattle.connection.specs.State.{liveAt}
+use Rattle.device.specs.State.{openOf}
+use Rattle.device.specs.Time.{tickOf}
+use Rattle.device.specs.declared.Opened.{Opened}
+use Rattle.device.specs.declared.Opening.{Opening}
+use Rattle.device.specs.declared.Opening.the-variants as opening
+use Rattle.device.specs.declared.Ticked.{Ticked}
+use Rattle.device.specs.declared.Ticking.{Ticking}
+use Rattle.device.specs.declared.Ticking.the-variants as ticking
+use Rattle.endpoint.specs.State.{stateOf, livesIn, recordObeys, closedState}
+use Rattle.endpoint.specs.Numbers.{badRecord, badArea, noConnection, tableFull, clockBack, overrun, Outcome, outcome, refused}
+use Rattle.endpoint.specs.declared.Record.{Record}
+
+-- "The call that zeros an area refuses only by its length": its answer, and the area
+unfoldable pub clearAnswer : List ℕ → List ℕ
+clearAnswer area = cond (eqb (length area) areaBytes) (0 ∷ []) (badArea ∷ [])
+
+unfoldable pub clearedArea : List ℕ → List ℕ
+clearedArea area = cond (eqb (length area) areaBytes) (zeros areaBytes) area
+
+-- "Opening gives the lowest free number with all counts zero"; "5 TableFull: opening with 8 open"
+unfoldable pub openedBy : Opening → Record → Opened → Outcome
+openedBy (opening.Number n) r o = outcome (0 ∷ n ∷ []) (stateOf (o .device) (r .held)) [] []
+openedBy opening.Full r o = refused tableFull r [] []
+
+unfoldable pub openCall : Record → Outcome
+openCall r = cond (recordObeys r) (openedBy (openOf (r .device) .answer) r (openOf (r .device))) (refused badRecord r [] [])
+
+-- the host's close
+unfoldable pub closeCall : Record → List ℕ → ℕ → Outcome
+closeCall r area n =
+    cond (recordObeys r)
+    (cond (areaSound (r .held) area)
+    (cond (liveAt (r .device .connections) n)
+    (outcome (0 ∷ []) (closedState r n) (partCleared area n) [])
+    (refused noConnection r area []))
+    (refused badArea r area []))
+    (refused badRecord r area [])
+
+-- a tick: whoever is then not open has no count and no byte
+unfoldable pub tickedBy : Ticking → Record → Ticked → List ℕ → Outcome
+tickedBy (ticking.Closed mask) r t area =
+    outcome (0 ∷ mask ∷ []) (stateOf (t .device) (heldKept (livesIn (t .device)) (r .held))) (closedCleared (livesIn (t .device)) area) []
+tickedBy ticking.ClockBack r t area = refused clockBack r area []
+tickedBy ticking.Overrun r t area = refused overrun r area []
+
+unfoldable pub tickCall : Record → List ℕ → ℕ → Outcome
+tickCall r area reading =
+    cond (recordObeys r)
+    (cond (areaSound (r .held) area)
+    (tickedBy (tickOf (r .device) reading .answer) r (tickOf (r .device) reading) area)
+    (refused badArea r area []))
+    (refused badRecord r area [])

@@ -1,0 +1,5 @@
+pub mod State
+pub mod Numbers
+pub mod Calls
+pub mod Deliver
+pub mod Take

@@ -1,0 +1,267 @@
+// The endpoint: the record that is passed and handed back, the lent area, and the calls of a host.
+use connection::Connection;
+use device::Device;
+use frame::Decision;
+ghost use mathlib.Core.Path.{_≡_};
+ghost use mathlib.Core.List.{[], _++_};
+ghost use Prim.Native.Nat.{_+_, _-_, _<_, _≤_};
+ghost use lib.ListN.{length, take};
+ghost use Rattle.frame.specs.Limits.{headerEnd};
+ghost use Rattle.frame.specs.Decide.{decide};
+ghost use Rattle.frame.specs.Sound.{SoundAt};
+ghost use Rattle.area.specs.Area.{areaBytes, undecidedOf};
+ghost use Rattle.endpoint.specs.State.{freshState, isLive, livesIn, recordObeys, closedState};
+ghost use Rattle.endpoint.specs.Numbers.{clearingNumbers, openingNumbers, closingNumbers, tickingNumbers, deliveryNumbers, takingNumbers, outcome};
+ghost use Rattle.endpoint.specs.Calls.{clearAnswer, clearedArea, openCall, closeCall, tickCall};
+ghost use Rattle.endpoint.specs.Deliver.{leastOutput, heldAt, Lying, gathered, messaged, deliveredBy, takenIn, deliverCall};
+ghost use Rattle.endpoint.specs.Take.{takenBy, takeCall};
+
+pub mod deliver;
+pub mod take;
+
+// The least output of delivery and take.
+pub const OUTPUT: usize = 4096;
+
+// The device, and each connection's count of undecided bytes.
+pub struct Record {
+    pub device: Device,
+    pub held: [u16; 8],
+}
+
+pub enum Clearing {
+    Done,
+    BadArea,
+}
+
+pub enum Opening {
+    Number(u8),
+    BadRecord,
+    TableFull,
+}
+
+pub struct Opened {
+    pub state: Record,
+    pub answer: Opening,
+}
+
+pub enum Closing {
+    Done,
+    BadRecord,
+    BadArea,
+    NoConnection,
+}
+
+pub struct Closed {
+    pub state: Record,
+    pub answer: Closing,
+}
+
+pub enum Ticking {
+    Closed(u8),
+    BadRecord,
+    BadArea,
+    ClockBack,
+    Overrun,
+}
+
+pub struct Ticked {
+    pub state: Record,
+    pub answer: Ticking,
+}
+
+pub enum Delivery {
+    // how many bytes were taken
+    More(usize),
+    // and the length of the reply
+    Message(usize, usize),
+    // and the fault
+    Closed(usize, u8),
+    BadRecord,
+    BadArea,
+    NoConnection,
+    NoRoom,
+}
+
+pub struct Delivered {
+    pub state: Record,
+    pub answer: Delivery,
+}
+
+pub enum Taking {
+    Nothing,
+    // the connection, and the message's length
+    Notification(u8, usize),
+    KeepAlive(u8, usize),
+    BadRecord,
+    NoRoom,
+}
+
+pub struct Taken {
+    pub state: Record,
+    pub answer: Taking,
+}
+
+// An area of zeros, for a fresh record.
+pub fn clear_area(area: &mut [u8]) -> Clearing
+    ensures { λ r. ⌜ (clearingNumbers r ≡ clearAnswer (now (area .entry))) × (now (area .exit) ≡ clearedArea (now (area .entry))) ⌝ }
+{
+    if area.len() != area::AREA {
+        return Clearing::BadArea;
+    }
+    octets::clear(area);
+    Clearing::Done
+}
+
+// Of each connection, whether it is open.
+pub(crate) fn lives(device: Device) -> [bool; 8]
+    ensures { λ r. ⌜ r ≡ livesIn device ⌝ }
+{
+    let connections = device.connections;
+    let mut out = [false; 8];
+    let mut n: usize = 0;
+    while n < connection::CONNECTIONS {
+        let c = connections[n];
+        out[n] = c.live;
+        n += 1;
+    }
+    out
+}
+
+impl Record {
+    pub fn fresh(reading: u32) -> Record
+        ensures { λ r. ⌜ r ≡ freshState reading ⌝ }
+    {
+        let device = Device::fresh(reading);
+        let held = [0u16; 8];
+        Record { device, held }
+    }
+
+    // The record rules hold.
+    pub fn obeys(self) -> bool
+        ensures { λ r. ⌜ r ≡ recordObeys self ⌝ }
+    {
+        let device = self.device;
+        let held = self.held;
+        let a = device.obeys();
+        let b = area::held_obey(lives(device), held);
+        a & b
+    }
+
+    // A connection is opened.
+    pub fn open(mut self) -> Opened
+        ensures { λ r. ⌜ outcome (openingNumbers (r .answer)) (r .state) [] [] ≡ openCall self ⌝ }
+    {
+        if !self.obeys() {
+            return Opened {
+                state: self,
+                answer: Opening::BadRecord,
+            };
+        }
+        let device = self.device;
+        let opened = device.open();
+        let answer = opened.answer;
+        match answer {
+            device::Opening::Number(n) => {
+                let next = opened.device;
+                self.device = next;
+                Opened {
+                    state: self,
+                    answer: Opening::Number(n),
+                }
+            }
+            device::Opening::Full => Opened {
+                state: self,
+                answer: Opening::TableFull,
+            },
+        }
+    }
+
+    // The record once connection n is closed.
+    pub(crate) fn closed(mut self, n: u8) -> Record
+        requires { ⌜ n < 8 ⌝ }
+        ensures { λ r. ⌜ r ≡ closedState self n ⌝ }
+    {
+        let at = n as usize;
+        let device = self.device;
+        let next = device.close(n);
+        self.device = next;
+        self.held[at] = 0;
+        self
+    }
+
+    // The host's close.
+    pub fn close(self, area: &mut [u8], n: u8) -> Closed
+        ensures { λ r. ⌜ outcome (closingNumbers (r .answer)) (r .state) (now (area .exit)) [] ≡ closeCall self (now (area .entry)) n ⌝ }
+    {
+        if !self.obeys() {
+            return Closed {
+                state: self,
+                answer: Closing::BadRecord,
+            };
+        }
+        let held = self.held;
+        if !area::area_sound(&area[0..], held) {
+            return Closed {
+                state: self,
+                answer: Closing::BadArea,
+            };
+        }
+        let device = self.device;
+        let connections = device.connections;
+        if !connection::live_at(connections, n) {
+            return Closed {
+                state: self,
+                answer: Closing::NoConnection,
+            };
+        }
+        area::clear_part(area, n as usize);
+        Closed {
+            state: self.closed(n),
+            answer: Closing::Done,
+        }
+    }
+
+    // Time passes, to a reading of the host's counter.
+    pub fn tick(mut self, area: &mut [u8], reading: u32) -> Ticked
+        ensures { λ r. ⌜ outcome (tickingNumbers (r .answer)) (r .state) (now (area .exit)) [] ≡ tickCall self (now (area .entry)) reading ⌝ }
+    {
+        if !self.obeys() {
+            return Ticked {
+                state: self,
+                answer: Ticking::BadRecord,
+            };
+        }
+        let held = self.held;
+        if !area::area_sound(&area[0..], held) {
+            return Ticked {
+                state: self,
+                answer: Ticking::BadArea,
+            };
+        }
+        let device = self.device;
+        let ticked = device.tick(reading);
+        let answer = ticked.answer;
+        match answer {
+            device::Ticking::Closed(mask) => {
+                let next = ticked.device;
+                let open = lives(next);
+                area::clear_closed(area, open);
+                self.device = next;
+                let kept = area::held_kept(open, held);
+                self.held = kept;
+                Ticked {
+                    state: self,
+                    answer: Ticking::Closed(mask),
+                }
+            }
+            device::Ticking::ClockBack => Ticked {
+                state: self,
+                answer: Ticking::ClockBack,
+            },
+            device::Ticking::Overrun => Ticked {
+                state: self,
+                answer: Ticking::Overrun,
+            },
+        }
+    }
+}
