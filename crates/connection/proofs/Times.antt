@@ -1,10 +1,9 @@
 -- A connection's tick and heartbeat, case by case. Assumes nothing.
-use Prim.Native.Nat.{ℕ, zero, suc, _+_, _-_, _*_, _/_, _%_, _^_, _<_, _≤_}
-use mathlib.Core.Path.{_≡_, refl, sym, ap, _∙_}
+use Prim.Native.Nat.{ℕ, _+_, _-_, _*_, _/_, _%_, _^_, _<_, _≤_}
+use mathlib.Core.Path.{_≡_, refl, sym, ap}
 use mathlib.Core.Logic.{_⊎_, ⊎-elim}
 use mathlib.Core.Bool.{Bool, true, false, not, _&&_, _||_}
-use mathlib.Core.List.{List, [], _∷_}
-use native.Mathlib.Nat.{not-suc-le-zero, le-of-suc-le-suc}
+use mathlib.Core.List.{List}
 use native.Mathlib.Omega.{arith}
 use borrow.Author.Tests.{ltb-true, ltb-false, lt-ltb, le-ltb, le-leb, lt-leb, eq-eqb, ne-eqb, leb-true, leb-false, eqb-true}
 use lib.Dec.{leb, ltb, eqb}
@@ -18,8 +17,8 @@ use Rattle.heartbeat.specs.declared.Seconds.{Seconds}
 use Rattle.heartbeat.specs.declared.Heartbeat.{Heartbeat}
 use Rattle.heartbeat.specs.declared.Heartbeat.the-variants.{InSeconds}
 use Rattle.connection.specs.State.{closed, liveAt, isFree, isDue}
-use Rattle.connection.specs.Rules.{isClosed, isIdle, formObeys, isTimed, connectionObeys, topSeconds, topMilliseconds}
-use Rattle.connection.specs.Supervision.{topCount, fitsStep, closesAt, counted, quietAfter, tickedOf, supervised, setBeat, heartbeatOf}
+use Rattle.connection.specs.Rules.{isClosed, isIdle, formObeys, isTimed, connectionObeys}
+use Rattle.connection.specs.Supervision.{fitsStep, closesAt, counted, quietAfter, tickedOf, supervised, setBeat, heartbeatOf}
 use Rattle.connection.specs.declared.Connection.{Connection}
 
 -- ---- tests

@@ -1,11 +1,8 @@
 -- Supervision of a connection: document 01 'Time and supervision'.
 use Prim.Native.Nat.{ℕ, _+_, _*_, _/_}
 use mathlib.Core.Bool.{Bool, true, false, cond, not, _&&_}
-use mathlib.Core.List.{List, map}
 use lib.Dec.{eqb, leb}
 use Rattle.heartbeat.specs.Beat.{secondsForm, formOf, beatOf}
-use Rattle.heartbeat.specs.declared.Seconds.{Seconds}
-use Rattle.heartbeat.specs.declared.Milliseconds.{Milliseconds}
 use Rattle.heartbeat.specs.declared.Heartbeat.{Heartbeat}
 use Rattle.heartbeat.specs.declared.Heartbeat.the-variants.{InSeconds, InMilliseconds}
 use Rattle.connection.specs.State.{closed}

@@ -1,3 +1,5 @@
 pub mod Times
 pub mod Commands
 pub mod Shapes
+pub mod Keeps
+pub mod Closures

@@ -1,15 +1,15 @@
 -- Which command it is, and what its arguments are. Assumes nothing.
-use Prim.Native.Nat.{ℕ, _+_, _-_, _<_, _≤_}
+use Prim.Native.Nat.{ℕ, _+_, _-_, _<_}
 use mathlib.Core.Path.{_≡_, refl, sym, ap, _∙_}
-use mathlib.Core.Bool.{Bool, true, false, cond, not, _&&_, _||_, and-true, and-false, or-false}
+use mathlib.Core.Bool.{Bool, true, false, not, _&&_, and-true, and-false, or-false}
 use mathlib.Core.List.{List, [], _∷_}
 use native.Mathlib.Omega.{arith}
-use borrow.Author.Tests.{eq-eqb, ne-eqb, eqb-true, not-true, not-false}
+use borrow.Author.Tests.{ne-eqb, eqb-true, not-false}
 use lib.Dec.{eqb}
 use lib.ListN.{length, getD}
 use Rattle.laws.proofs.Conds.{and-left, and-right}
 use Rattle.laws.proofs.Parts.{nil-of}
-use Rattle.laws.proofs.Tables.{or-neither, clash}
+use Rattle.laws.proofs.Tables.{or-neither}
 use Rattle.subscription.specs.State.{isMute}
 use Rattle.objects.specs.Methods.{classMethod, lockableMethod, lockMethod, unlockMethod, getMethod, setMethod, addMethod, removeMethod, resetKeyMethod, placeOf, isManager, isObject, isTelling, isLocking, isMuting, isSubscribing, hasMethod}
 use Rattle.objects.specs.Tests.{isForbidden, countOf, lengthOf, isPairBad, isMalformed, isEmitterBad, isValueBad, Allowed}

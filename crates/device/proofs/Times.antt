@@ -1,24 +1,23 @@
 -- Opening, closing and ticks, case by case. Assumes nothing.
-use Prim.Native.Nat.{ℕ, _^_, _<_, _≤_}
-use mathlib.Core.Path.{_≡_, refl, sym, ap, _∙_}
+use Prim.Native.Nat.{ℕ, _<_, _≤_}
+use mathlib.Core.Path.{_≡_, sym, ap, _∙_}
 use mathlib.Core.Bool.{Bool, true, false, not}
 use mathlib.Core.List.{List, map}
 use native.Mathlib.Omega.{arith}
 use borrow.Author.Tests.{le-leb, lt-leb, lt-ltb, le-ltb, not-true, not-false}
-use lib.Dec.{ltb}
 use lib.ListN.{length, getD, set}
 use lib.Seq.{set-out}
-use Rattle.laws.specs.Lists.{all, any, mask}
+use Rattle.laws.specs.Lists.{all, mask}
 use Rattle.laws.proofs.Tables.{any-index, getD-any}
 use Rattle.heartbeat.specs.declared.Heartbeat.{Heartbeat}
 use Rattle.connection.specs.State.{closed, opened, liveAt, isFree, lowestFree}
 use Rattle.connection.specs.Supervision.{fitsStep, closesAt, tickedOf, heardOf, sentOf, beatingOf}
 use Rattle.connection.specs.declared.Connection.{Connection}
 use Rattle.connection.proofs.Times.{live-below}
-use Rattle.subscription.specs.State.{sweptOf}
+use Rattle.subscription.specs.State.{free, toldOf, sweptOf}
 use Rattle.subscription.specs.declared.Subscription.{Subscription}
 use Rattle.holders.specs.Holders.{sweptHolder}
-use Rattle.device.specs.State.{withConnections, openOf, sweepOf, closeOf, atConnection, heardAt, sentAt, beatingAt}
+use Rattle.device.specs.State.{withConnections, withSubscriptions, openOf, sweepOf, closeOf, atConnection, heardAt, sentAt, toldAt, beatingAt}
 use Rattle.device.specs.Time.{stepOf, advanced, tickBy, tickOf}
 use Rattle.device.specs.declared.Device.{Device}
 use Rattle.device.specs.declared.Opened.{Opened}
@@ -73,6 +72,20 @@ module _ (d : Device) (n : ℕ) where
   pub close-in : (r : Device) → r ≡ sweepOf (withConnections d (set (d .connections) n closed)) → r ≡ closeOf d n
   unfolding closeOf
   close-in r q = q
+
+-- ---- one entry changed
+module _ (d : Device) (at : ℕ) (l : length (d .subscriptions) ≡ 32) where
+  pub told-out : 32 ≤ at → d ≡ toldAt d at
+  unfolding toldAt
+  told-out h =
+      let k : length (d .subscriptions) ≤ at = omega arith in
+      ap (withSubscriptions d) (sym (set-out (d .subscriptions) at (toldOf (getD (d .subscriptions) at free)) k))
+
+  pub told-in : at < 32 → (x a : Subscription) → x ≡ toldOf (getD (d .subscriptions) at a) → withSubscriptions d (set (d .subscriptions) at x) ≡ toldAt d at
+  unfolding toldAt
+  told-in h x a e =
+      let k : at < length (d .subscriptions) = omega arith in
+      ap (λ (y : Subscription). withSubscriptions d (set (d .subscriptions) at y)) (e ∙ ap toldOf (getD-any (d .subscriptions) at a free k))
 
 -- ---- opening
 module _ (d : Device) (n : ℕ) (q : n ≡ lowestFree (d .connections)) (e : length (d .connections) ≡ 8) where

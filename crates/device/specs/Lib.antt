@@ -2,3 +2,5 @@ pub mod State
 pub mod Rules
 pub mod Time
 pub mod Run
+pub mod Kept
+pub mod Closure

@@ -1,12 +1,11 @@
 -- A command: document 01 'Our objects'.
-use Prim.Native.Nat.{ℕ, _+_}
-use mathlib.Core.Bool.{Bool, true, false, cond, not, _&&_, _||_}
-use mathlib.Core.List.{List, [], map}
+use Prim.Native.Nat.{ℕ}
+use mathlib.Core.Bool.{Bool, cond, not, _&&_, _||_}
+use mathlib.Core.List.{List, map}
 use lib.Dec.{eqb}
 use lib.ListN.{getD, set}
 use Rattle.laws.specs.Lists.{any}
-use Rattle.subscription.specs.State.{firstMute, free, isUnused, isTwin, twinAt, lowestUnused, markedOf}
-use Rattle.subscription.specs.declared.Subscription.{Subscription}
+use Rattle.subscription.specs.State.{free, isUnused, isTwin, twinAt, lowestUnused, markedOf}
 use Rattle.objects.specs.Methods.{lockMethod, unlockMethod, setMethod, addMethod, removeMethod, placeOf, isObject, isLocking, hasMethod}
 use Rattle.objects.specs.Tests.{isForbidden, isMalformed, entryOf, isEmitterBad, isValueBad}
 use Rattle.objects.specs.Answers.{replyOf, failedOf, toldOf}

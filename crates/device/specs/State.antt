@@ -1,6 +1,6 @@
 -- The device: fresh, opening, closing. Document 01 'What is built' and 'Time and supervision'.
 use Prim.Native.Nat.{ℕ}
-use mathlib.Core.Bool.{Bool, true, false, cond}
+use mathlib.Core.Bool.{cond}
 use mathlib.Core.List.{List, map}
 use lib.ListN.{getD, set, replicate}
 use Rattle.laws.specs.Lists.{any}
@@ -8,12 +8,11 @@ use Rattle.heartbeat.specs.declared.Heartbeat.{Heartbeat}
 use Rattle.connection.specs.State.{connectionCount, closed, opened, liveAt, isFree, lowestFree}
 use Rattle.connection.specs.Supervision.{heardOf, sentOf, beatingOf}
 use Rattle.connection.specs.declared.Connection.{Connection}
-use Rattle.subscription.specs.State.{entryCount, free, sweptOf}
+use Rattle.subscription.specs.State.{entryCount, free, toldOf, sweptOf}
 use Rattle.subscription.specs.declared.Subscription.{Subscription}
 use Rattle.holders.specs.Holders.{sweptHolder}
 use Rattle.device.specs.declared.Device.{Device}
 use Rattle.device.specs.declared.Opened.{Opened}
-use Rattle.device.specs.declared.Opening.{Opening}
 use Rattle.device.specs.declared.Opening.the-variants.{Number, Full}
 
 -- "8 mutes", "Mutes start at 2 (unmuted)"
@@ -83,6 +82,10 @@ heardAt d n = atConnection heardOf d n
 -- "Anything the device sends on a connection clears quiet and due there"
 unfoldable pub sentAt : Device → ℕ → Device
 sentAt d n = atConnection sentOf d n
+
+-- "Taking sends the value of that moment, once": the entry at a place waits no more
+unfoldable pub toldAt : Device → ℕ → Device
+toldAt d at = withSubscriptions d (set (d .subscriptions) at (toldOf (getD (d .subscriptions) at free)))
 
 -- "A keep-alive received sets the heartbeat", on an open connection
 unfoldable pub beatingAt : Device → ℕ → Heartbeat → Device

@@ -1,6 +1,6 @@
 -- A tick: document 01 'Time and supervision' and rows 6 and 7 of 'What calls refuse'.
 use Prim.Native.Nat.{ℕ, _+_, _-_, _%_, _^_}
-use mathlib.Core.Bool.{Bool, cond}
+use mathlib.Core.Bool.{cond}
 use mathlib.Core.List.{List, map}
 use lib.Dec.{leb}
 use Rattle.laws.specs.Lists.{all, mask}
@@ -9,7 +9,6 @@ use Rattle.connection.specs.declared.Connection.{Connection}
 use Rattle.device.specs.State.{sweepOf}
 use Rattle.device.specs.declared.Device.{Device}
 use Rattle.device.specs.declared.Ticked.{Ticked}
-use Rattle.device.specs.declared.Ticking.{Ticking}
 use Rattle.device.specs.declared.Ticking.the-variants.{Closed, ClockBack, Overrun}
 
 -- "The step is this reading less the last, modulo 2^32"

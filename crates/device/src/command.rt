@@ -8,7 +8,7 @@ ghost use mathlib.Core.Bool.{true, false};
 ghost use mathlib.Core.List.{[], _∷_};
 ghost use Prim.Native.Nat.{_+_, _<_};
 ghost use Rattle.subscription.specs.State.{firstMute};
-ghost use Rattle.objects.specs.Methods.{methodNumber, subscriptionManager, classMethod, lockableMethod, lockMethod, unlockMethod, getMethod, setMethod, addMethod, removeMethod, isObject, isTelling, isSubscribing};
+ghost use Rattle.objects.specs.Methods.{methodNumber, subscriptionManager, classMethod, lockableMethod, lockMethod, unlockMethod, getMethod, setMethod, addMethod, removeMethod, isTelling, isSubscribing};
 ghost use Rattle.objects.specs.Tests.{countOf, isMalformed, Allowed};
 ghost use Rattle.device.specs.Run.{answerOf, unchanged, runOf};
 

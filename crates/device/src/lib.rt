@@ -4,8 +4,10 @@ use heartbeat::Heartbeat;
 use objects::Answer;
 use subscription::Subscription;
 ghost use mathlib.Core.Path.{_≡_};
-ghost use Rattle.device.specs.State.{freshOf, openOf, sweepOf, closeOf, heardAt, sentAt, beatingAt};
+ghost use Rattle.device.specs.State.{freshOf, openOf, sweepOf, closeOf, heardAt, sentAt, toldAt, beatingAt};
 ghost use Rattle.device.specs.Rules.{deviceObeys};
+ghost use Rattle.device.specs.Kept.{RulesKept, FailuresChangeNothing};
+ghost use Rattle.device.specs.Closure.{ClosureFrees};
 ghost use Rattle.device.specs.Time.{stepOf, tickOf};
 
 pub mod command;
@@ -189,6 +191,19 @@ impl Device {
         self
     }
 
+    // The entry at a place is told: it waits no more.
+    pub fn told(mut self, at: usize) -> Device
+        ensures { λ r. ⌜ r ≡ toldAt self at ⌝ }
+    {
+        if at >= subscription::ENTRIES {
+            return self;
+        }
+        let s = self.subscriptions[at];
+        let next = s.told();
+        self.subscriptions[at] = next;
+        self
+    }
+
     // A keep-alive came on connection n and is answered.
     pub fn keep_alive(mut self, n: u8, h: Heartbeat) -> Device
         ensures { λ r. ⌜ r ≡ beatingAt self n h ⌝ }
@@ -204,3 +219,16 @@ impl Device {
         self
     }
 }
+
+// The theorems of the device, as contracts of functions that do nothing: each has its line in the verdict.
+pub fn rules_kept()
+    ensures { λ _. ⌜ RulesKept ⌝ }
+{}
+
+pub fn failures_change_nothing()
+    ensures { λ _. ⌜ FailuresChangeNothing ⌝ }
+{}
+
+pub fn closure_frees()
+    ensures { λ _. ⌜ ClosureFrees ⌝ }
+{}

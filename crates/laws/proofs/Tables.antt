@@ -1,8 +1,8 @@
 -- Laws of tests over a list whose elements change. Assumes nothing.
-use Prim.Native.Nat.{ℕ, zero, suc, _+_, _<_, _≤_}
-use mathlib.Core.Path.{_≡_, refl, sym, ap, _∙_}
+use Prim.Native.Nat.{ℕ, zero, suc, _<_}
+use mathlib.Core.Path.{_≡_, refl, sym, _∙_}
 use mathlib.Core.Logic.{_⊎_, inl, inr}
-use mathlib.Core.Bool.{Bool, true, false, cond, not, _&&_, _||_}
+use mathlib.Core.Bool.{Bool, true, false, _&&_, _||_}
 use mathlib.Core.List.{List, [], _∷_, map}
 use native.Mathlib.Nat.{not-suc-le-zero, le-of-suc-le-suc}
 use native.Mathlib.Omega.{arith}
@@ -78,6 +78,21 @@ module _ {A : Type 0} where
       (all-set (r x) l n v (and-left (all (r x) l) (allPairs r l) h) (s v x (and-left (r v x) (all (r v) l) q)))
       (pairs-set r s l n v (and-right (all (r x) l) (allPairs r l) h) (and-right (r v x) (all (r v) l) q))
 
+  -- a new element that p takes for the old one changes no test
+  pub all-like : (p : A → Bool) (l : List A) (n : ℕ) (v d : A) → p v ≡ p (getD l n d) → all p (set l n v) ≡ all p l
+  all-like p [] n v d e = refl
+  all-like p (x ∷ l) zero v d e = rw e
+  all-like p (x ∷ l) (suc n) v d e = rw (all-like p l n v d e)
+
+  pub pairs-like : (r : A → A → Bool) (l : List A) (n : ℕ) (v d : A) → ((x : A) → r v x ≡ r (getD l n d) x) → ((x : A) → r x v ≡ r x (getD l n d)) → allPairs r (set l n v) ≡ allPairs r l
+  pairs-like r [] n v d f g = refl
+  pairs-like r (x ∷ l) zero v d f g = rw (all-same (r v) (r x) f l)
+    where
+      all-same : (p q : A → Bool) → ((x : A) → p x ≡ q x) → (l : List A) → all p l ≡ all q l
+      all-same p q e [] = refl
+      all-same p q e (x ∷ l) = rw (e x, all-same p q e l)
+  pairs-like r (x ∷ l) (suc n) v d f g = rw (all-like (r x) l n v d (g x), pairs-like r l n v d f g)
+
   -- none meets p, and what does not meet p meets q
   pub none-all : (p q : A → Bool) → ((x : A) → p x ≡ false → q x ≡ true) → (l : List A) → any p l ≡ false → all q l ≡ true
   none-all p q k [] h = refl
@@ -106,6 +121,20 @@ module _ {A : Type 0} where
   pub map-map : {B C : Type 0} (f : A → B) (g : B → C) (l : List A) → map g (map f l) ≡ map (λ (x : A). g (f x)) l
   map-map f g [] = refl
   map-map f g (x ∷ l) = rw (map-map f g l)
+
+  pub all-true : (p : A → Bool) → ((x : A) → p x ≡ true) → (l : List A) → all p l ≡ true
+  all-true p k [] = refl
+  all-true p k (x ∷ l) = and-both (p x) (all p l) (k x) (all-true p k l)
+
+  pub all-getD : (p : A → Bool) (l : List A) (n : ℕ) (d : A) → all p l ≡ true → p d ≡ true → p (getD l n d) ≡ true
+  all-getD p [] n d h q = q
+  all-getD p (x ∷ l) zero d h q = and-left (p x) (all p l) h
+  all-getD p (x ∷ l) (suc n) d h q = all-getD p l n d (and-right (p x) (all p l) h) q
+
+  -- where all meet the test, maps that agree on such elements are the same
+  pub map-all : {B : Type 0} (p : A → Bool) (f g : A → B) → ((x : A) → p x ≡ true → f x ≡ g x) → (l : List A) → all p l ≡ true → map f l ≡ map g l
+  map-all p f g e [] h = refl
+  map-all p f g e (x ∷ l) h = rw (e x (and-left (p x) (all p l) h), map-all p f g e l (and-right (p x) (all p l) h))
 
   -- within a list the default is any
   pub getD-any : (l : List A) (n : ℕ) (a b : A) → n < length l → getD l n a ≡ getD l n b

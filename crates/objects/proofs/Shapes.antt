@@ -1,7 +1,7 @@
 -- Arguments' counts and lengths, and a mute's place. Assumes nothing.
-use Prim.Native.Nat.{ℕ, _+_, _-_, _<_, _≤_}
-use mathlib.Core.Path.{_≡_, refl, sym, ap, _∙_}
-use mathlib.Core.Bool.{Bool, true, false, cond, not, _&&_, _||_}
+use Prim.Native.Nat.{ℕ, _-_, _<_, _≤_}
+use mathlib.Core.Path.{_≡_, refl}
+use mathlib.Core.Bool.{Bool, true, false, not, _&&_, _||_}
 use mathlib.Core.List.{List, [], _∷_}
 use native.Mathlib.Omega.{arith}
 use borrow.Author.Tests.{leb-true, eq-eqb, ne-eqb, eqb-true, not-false}
@@ -10,7 +10,7 @@ use lib.ListN.{length, getD}
 use Rattle.laws.proofs.Conds.{and-left, and-right}
 use Rattle.laws.proofs.Tables.{or-neither}
 use Rattle.subscription.specs.State.{isMute}
-use Rattle.objects.specs.Methods.{addMethod, placeOf}
+use Rattle.objects.specs.Methods.{placeOf}
 use Rattle.objects.specs.Answers.{classOf, identificationOf, toldOf}
 use Rattle.objects.specs.Tests.{countOf, lengthOf, isPairBad, isMalformed}
 

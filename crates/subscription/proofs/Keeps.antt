@@ -2,14 +2,14 @@
 use Prim.Native.Nat.{ℕ}
 use mathlib.Core.Path.{_≡_, refl, sym, ap, _∙_}
 use mathlib.Core.Logic.{_⊎_, inl, inr, ⊎-elim}
-use mathlib.Core.Bool.{Bool, true, false, cond, not, _&&_, _||_, and-comm}
+use mathlib.Core.Bool.{Bool, true, false, cond, not, _&&_, and-comm}
 use mathlib.Core.List.{List}
 use lib.Dec.{eqb}
 use Rattle.laws.proofs.Conds.{and-left, and-right}
 use Rattle.laws.proofs.Tables.{and-both, or-cases, or-right, clash, eqb-even}
 use Rattle.connection.specs.State.{liveAt}
 use Rattle.connection.specs.declared.Connection.{Connection}
-use Rattle.subscription.specs.State.{isMute, changeEvent, free, isTwin, withWaiting, markedOf, sweptOf}
+use Rattle.subscription.specs.State.{isMute, changeEvent, free, isTwin, withWaiting, markedOf, toldOf, sweptOf}
 use Rattle.subscription.specs.Rules.{isFree, isSound, entryObeys, apart}
 use Rattle.subscription.specs.Kept.{EntriesKept}
 use Rattle.subscription.specs.declared.Subscription.{Subscription}
@@ -46,7 +46,7 @@ pub obeys-sound : (cs : List Connection) (s : Subscription) → Sound cs s → e
 unfolding entryObeys isSound
 obeys-sound cs s u = or-right (isFree s) _ (and-both _ _ (and-both _ _ (and-both _ _ (u .used) (u .live)) (u .mute)) (u .event))
 
-free-unused : (s : Subscription) → isFree s ≡ true → s .used ≡ false
+pub free-unused : (s : Subscription) → isFree s ≡ true → s .used ≡ false
 unfolding isFree
 free-unused s h = go (s .used) refl
   where
@@ -105,6 +105,31 @@ marked-apart (now u) not-now h = h
 marked-apart not-now (now v) h = h
 marked-apart not-now not-now h = h
 
+-- ---- an entry told
+free-told : (s : Subscription) → isFree s ≡ true → isFree (toldOf s) ≡ true
+unfolding isFree toldOf
+free-told s f = go (s .waiting) refl (s .used) refl
+  where
+    go : (w : Bool) → s .waiting ≡ w → (u : Bool) → s .used ≡ u → isFree (toldOf s) ≡ true
+    go true w true u = clash _ false (rw u at f) refl
+    go true w false u = clash _ false (rw (u, w) at f) refl
+    go false w u e = rw w at f
+
+telling : (cs : List Connection) (s : Subscription) → entryObeys cs s ≡ true → entryObeys cs (toldOf s) ≡ true
+unfolding toldOf
+telling cs s h =
+    ⊎-elim (λ f. obeys-free cs (toldOf s) (free-told s f))
+    (λ (u : Sound cs s). obeys-sound cs (toldOf s) (record { used = u .used; live = u .live; mute = u .mute; event = u .event }))
+    (entry-view cs s h)
+
+telling-left : (s t : Subscription) → apart (toldOf s) t ≡ apart s t
+unfolding toldOf apart isTwin
+telling-left s t = refl
+
+telling-right : (s t : Subscription) → apart s (toldOf t) ≡ apart s t
+unfolding toldOf apart isTwin
+telling-right s t = refl
+
 -- ---- sweeps
 sweep-same : (ds : List Connection) (s : Subscription) → s .used && not (liveAt ds (s .connection)) ≡ false → sweptOf ds s ≡ s
 unfolding sweptOf
@@ -158,6 +183,9 @@ entries-kept =
       even = even;
       marking = λ cs e s. marked-obeys cs s (mark-view e s);
       marking-apart = λ e s t. marked-apart (mark-view e s) (mark-view e t);
+      telling = telling;
+      telling-left = telling-left;
+      telling-right = telling-right;
       sweeping = sweeping;
       sweeping-apart = λ ds s t. swept-apart (sweep-view ds s) (sweep-view ds t);
       standing = standing;

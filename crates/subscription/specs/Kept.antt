@@ -1,11 +1,11 @@
 -- What marking and sweeping keep, for every entry.
 use mathlib.Core.Path.{_≡_}
 use Prim.Native.Nat.{ℕ}
-use mathlib.Core.Bool.{Bool, true, false}
+use mathlib.Core.Bool.{true}
 use mathlib.Core.List.{List}
 use Rattle.connection.specs.State.{liveAt}
 use Rattle.connection.specs.declared.Connection.{Connection}
-use Rattle.subscription.specs.State.{free, markedOf, sweptOf}
+use Rattle.subscription.specs.State.{free, markedOf, toldOf, sweptOf}
 use Rattle.subscription.specs.Rules.{entryObeys, apart}
 use Rattle.subscription.specs.declared.Subscription.{Subscription}
 
@@ -15,6 +15,9 @@ pub record EntriesKept : Type 0 where
   pub even : (s t : Subscription) → apart s t ≡ true → apart t s ≡ true
   pub marking : (cs : List Connection) (emitter : ℕ) (s : Subscription) → entryObeys cs s ≡ true → entryObeys cs (markedOf emitter s) ≡ true
   pub marking-apart : (emitter : ℕ) (s t : Subscription) → apart s t ≡ true → apart (markedOf emitter s) (markedOf emitter t) ≡ true
+  pub telling : (cs : List Connection) (s : Subscription) → entryObeys cs s ≡ true → entryObeys cs (toldOf s) ≡ true
+  pub telling-left : (s t : Subscription) → apart (toldOf s) t ≡ apart s t
+  pub telling-right : (s t : Subscription) → apart s (toldOf t) ≡ apart s t
   -- whatever connections come, a sweep restores the rules
   pub sweeping : (cs ds : List Connection) (s : Subscription) → entryObeys cs s ≡ true → entryObeys ds (sweptOf ds s) ≡ true
   pub sweeping-apart : (ds : List Connection) (s t : Subscription) → apart s t ≡ true → apart (sweptOf ds s) (sweptOf ds t) ≡ true

@@ -60,6 +60,10 @@ withWaiting s w =
 unfoldable pub markedOf : ℕ → Subscription → Subscription
 markedOf emitter s = cond (s .used && eqb (s .emitter) emitter) (withWaiting s true) s
 
+-- "Taking sends the value of that moment, once": an entry told waits no more
+unfoldable pub toldOf : Subscription → Subscription
+toldOf s = withWaiting s false
+
 -- a sweep frees whatever belongs to a connection that is not open
 unfoldable pub sweptOf : List Connection → Subscription → Subscription
 sweptOf cs s = cond (s .used && not (liveAt cs (s .connection))) free s

@@ -4,7 +4,7 @@ ghost use mathlib.Core.Path.{_≡_};
 ghost use mathlib.Core.List.{map};
 ghost use lib.ListN.{drop};
 ghost use Rattle.laws.specs.Lists.{all, allPairs};
-ghost use Rattle.subscription.specs.State.{isMute, isTwin, twinAt, lowestUnused, lowestWaiting, markedOf, sweptOf};
+ghost use Rattle.subscription.specs.State.{isMute, isTwin, twinAt, lowestUnused, lowestWaiting, markedOf, toldOf, sweptOf};
 ghost use Rattle.subscription.specs.Rules.{isFree, isSound, entryObeys, apart};
 ghost use Rattle.subscription.specs.Kept.{EntriesKept};
 
@@ -102,6 +102,14 @@ impl Subscription {
             self.waiting = true;
             return self;
         }
+        self
+    }
+
+    // A waiting entry is told: it waits no more.
+    pub fn told(mut self) -> Subscription
+        ensures { λ r. ⌜ r ≡ toldOf self ⌝ }
+    {
+        self.waiting = false;
         self
     }
 

@@ -1,0 +1,70 @@
+-- What a closure takes and leaves: document 01 'Time and supervision', "A closure frees the connection's locks, entries and waiting marks".
+use Prim.Native.Nat.{ℕ, _+_, _^_}
+use mathlib.Core.Path.{_≡_}
+use mathlib.Core.Bool.{Bool, true, false, cond, _&&_}
+use mathlib.Core.List.{List, map}
+use lib.Dec.{eqb, leb}
+use lib.ListN.{getD, set}
+use Rattle.laws.specs.Lists.{all}
+use Rattle.connection.specs.State.{closed, liveAt}
+use Rattle.connection.specs.Supervision.{fitsStep, closesAt}
+use Rattle.subscription.specs.State.{free}
+use Rattle.subscription.specs.declared.Subscription.{Subscription}
+use Rattle.device.specs.State.{closeOf}
+use Rattle.device.specs.Rules.{deviceObeys}
+use Rattle.device.specs.Time.{stepOf, tickOf}
+use Rattle.device.specs.declared.Device.{Device}
+
+-- the lock is connection n's; the entry is connection n's
+unfoldable pub isLockOf : ℕ → ℕ → Bool
+isLockOf n holder = eqb holder (n + 1)
+
+unfoldable pub isEntryOf : ℕ → Subscription → Bool
+isEntryOf n s = s .used && eqb (s .connection) n
+
+-- the locks of connection n, each at its mute's place, and its entries, each at its own place with its mark
+unfoldable pub locksOf : ℕ → Device → List ℕ
+locksOf n d = map (λ (h : ℕ). cond (isLockOf n h) h 0) (d .holders)
+
+unfoldable pub entriesOf : ℕ → Device → List Subscription
+entriesOf n d = map (λ (s : Subscription). cond (isEntryOf n s) s free) (d .subscriptions)
+
+-- none of them
+unfoldable pub noLocks : Device → List ℕ
+noLocks d = map (λ (h : ℕ). 0) (d .holders)
+
+unfoldable pub noEntries : Device → List Subscription
+noEntries d = map (λ (s : Subscription). free) (d .subscriptions)
+
+-- nothing of connection n is left in r, which came of d
+pub record Gone (n : ℕ) (d r : Device) : Type 0 where
+  pub shut : liveAt (r .connections) n ≡ false
+  pub locks : locksOf n r ≡ noLocks d
+  pub entries : entriesOf n r ≡ noEntries d
+
+-- connection n is open in r, with its locks, entries and marks as in d
+pub record Stays (n : ℕ) (d r : Device) : Type 0 where
+  pub live : liveAt (r .connections) n ≡ true
+  pub locks : locksOf n r ≡ locksOf n d
+  pub entries : entriesOf n r ≡ entriesOf n d
+
+-- the closure in the paper's words: connection n's locks and entries freed, its counts cleared, the rest as it was
+unfoldable pub freedOf : Device → ℕ → Device
+freedOf d n =
+    record {
+      reading = d .reading;
+      connections = set (d .connections) n closed;
+      subscriptions = map (λ (s : Subscription). cond (isEntryOf n s) free s) (d .subscriptions);
+      mutes = d .mutes;
+      holders = map (λ (h : ℕ). cond (isLockOf n h) 0 h) (d .holders);
+    }
+
+pub record ClosureFrees : Type 0 where
+  -- the host's close, or a fault's
+  pub closing : (d : Device) (n : ℕ) → Gone n d (closeOf d n)
+  pub others : (d : Device) (n k : ℕ) → eqb k n ≡ false → liveAt (d .connections) k ≡ true → Stays k d (closeOf d n)
+  pub same : (d : Device) (n k : ℕ) → eqb k n ≡ false → getD (closeOf d n .connections) k closed ≡ getD (d .connections) k closed
+  pub wording : (d : Device) (n : ℕ) → deviceObeys d ≡ true → closeOf d n ≡ freedOf d n
+  -- a tick that is not refused
+  pub ticking : (d : Device) (reading n : ℕ) → leb (2 ^ 31) (stepOf reading (d .reading)) ≡ false → all (fitsStep (stepOf reading (d .reading))) (d .connections) ≡ true → closesAt (stepOf reading (d .reading)) (getD (d .connections) n closed) ≡ true → Gone n d (tickOf d reading .device)
+  pub staying : (d : Device) (reading n : ℕ) → leb (2 ^ 31) (stepOf reading (d .reading)) ≡ false → all (fitsStep (stepOf reading (d .reading))) (d .connections) ≡ true → liveAt (d .connections) n ≡ true → closesAt (stepOf reading (d .reading)) (getD (d .connections) n closed) ≡ false → Stays n d (tickOf d reading .device)

@@ -1,0 +1,35 @@
+-- What every call keeps: document 01 'Time and supervision', "After every call the record rules hold".
+use Prim.Native.Nat.{ℕ, _^_}
+use mathlib.Core.Path.{_≡_}
+use mathlib.Core.Bool.{true, false}
+use mathlib.Core.List.{List}
+use lib.Dec.{eqb, leb}
+use Rattle.laws.specs.Lists.{all}
+use Rattle.heartbeat.specs.declared.Heartbeat.{Heartbeat}
+use Rattle.connection.specs.State.{liveAt}
+use Rattle.connection.specs.Supervision.{fitsStep}
+use Rattle.connection.specs.Kept.{fitsForm}
+use Rattle.objects.specs.Answers.{failedOf}
+use Rattle.device.specs.State.{freshOf, openOf, closeOf, heardAt, sentAt, toldAt, beatingAt}
+use Rattle.device.specs.Rules.{deviceObeys}
+use Rattle.device.specs.Time.{stepOf, tickOf}
+use Rattle.device.specs.Run.{statusOf, unchanged, runOf}
+use Rattle.device.specs.declared.Device.{Device}
+
+-- the record rules
+pub record RulesKept : Type 0 where
+  pub fresh : (reading : ℕ) → deviceObeys (freshOf reading) ≡ true
+  pub opening : (d : Device) → deviceObeys d ≡ true → deviceObeys (openOf d .device) ≡ true
+  pub closing : (d : Device) (n : ℕ) → deviceObeys d ≡ true → deviceObeys (closeOf d n) ≡ true
+  pub ticking : (d : Device) (reading : ℕ) → deviceObeys d ≡ true → deviceObeys (tickOf d reading .device) ≡ true
+  pub hearing : (d : Device) (n : ℕ) → deviceObeys d ≡ true → deviceObeys (heardAt d n) ≡ true
+  pub sending : (d : Device) (n : ℕ) → deviceObeys d ≡ true → deviceObeys (sentAt d n) ≡ true
+  pub telling : (d : Device) (at : ℕ) → deviceObeys d ≡ true → deviceObeys (toldAt d at) ≡ true
+  pub beating : (d : Device) (n : ℕ) (h : Heartbeat) → fitsForm h ≡ true → deviceObeys d ≡ true → deviceObeys (beatingAt d n h) ≡ true
+  pub running : (d : Device) (n target m count : ℕ) (part : List ℕ) → liveAt (d .connections) n ≡ true → deviceObeys d ≡ true → deviceObeys (runOf d n target m count part .device) ≡ true
+  -- row 7 never applies to a record that obeys
+  pub fitting : (d : Device) (reading : ℕ) → deviceObeys d ≡ true → leb (2 ^ 31) (stepOf reading (d .reading)) ≡ false → all (fitsStep (stepOf reading (d .reading))) (d .connections) ≡ true
+
+-- "Statuses other than 0 carry no parameters and change nothing"
+pub record FailuresChangeNothing : Type 0 where
+  pub failing : (d : Device) (n target m count : ℕ) (part : List ℕ) → eqb (statusOf d n target m count part) 0 ≡ false → runOf d n target m count part ≡ unchanged d (failedOf (statusOf d n target m count part))
