@@ -10,17 +10,15 @@ use Rattle.connection.specs.Supervision.{heardOf, sentOf, beatingOf}
 use Rattle.connection.specs.declared.Connection.{Connection}
 use Rattle.subscription.specs.State.{entryCount, free, toldOf, sweptOf}
 use Rattle.subscription.specs.declared.Subscription.{Subscription}
+use Rattle.objects.specs.Tests.{unmuted}
 use Rattle.holders.specs.Holders.{sweptHolder}
 use Rattle.device.specs.declared.Device.{Device}
 use Rattle.device.specs.declared.Opened.{Opened}
 use Rattle.device.specs.declared.Opening.the-variants.{Number, Full}
 
--- "8 mutes", "Mutes start at 2 (unmuted)"
+-- "8 mutes"
 abbrev pub muteCount : ℕ
 muteCount = 8
-
-abbrev pub unmuted : ℕ
-unmuted = 2
 
 -- "Fresh takes a first reading": "every connection closed, no lock and every entry free"
 unfoldable pub freshOf : ℕ → Device

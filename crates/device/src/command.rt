@@ -56,7 +56,7 @@ impl Device {
         if holders::is_other(holder, n) {
             return Ran {
                 device: self,
-                answer: Answer::failed(3),
+                answer: Answer::failed(objects::HELD_BY_OTHER),
             };
         }
         self.holders[at] = holders::owner(n);
@@ -74,13 +74,13 @@ impl Device {
         if holders::is_other(holder, n) {
             return Ran {
                 device: self,
-                answer: Answer::failed(3),
+                answer: Answer::failed(objects::HELD_BY_OTHER),
             };
         }
         if holder == 0 {
             return Ran {
                 device: self,
-                answer: Answer::failed(9),
+                answer: Answer::failed(objects::OUT_OF_TURN),
             };
         }
         self.holders[at] = 0;
@@ -99,13 +99,13 @@ impl Device {
         if holders::is_other(holder, n) {
             return Ran {
                 device: self,
-                answer: Answer::failed(3),
+                answer: Answer::failed(objects::HELD_BY_OTHER),
             };
         }
         if !objects::is_mute_value(v) {
             return Ran {
                 device: self,
-                answer: Answer::failed(7),
+                answer: Answer::failed(objects::BAD_VALUE),
             };
         }
         let value = self.mutes[at];
@@ -132,13 +132,13 @@ impl Device {
         if objects::is_strange(part) {
             return Ran {
                 device: self,
-                answer: Answer::failed(6),
+                answer: Answer::failed(objects::STRANGE),
             };
         }
         if part[20] != 1 {
             return Ran {
                 device: self,
-                answer: Answer::failed(7),
+                answer: Answer::failed(objects::BAD_VALUE),
             };
         }
         let e = objects::entry(n, part, octets::be32(part, 16));
@@ -146,14 +146,14 @@ impl Device {
         if subscription::twin_at(entries, e) < subscription::ENTRIES {
             return Ran {
                 device: self,
-                answer: Answer::failed(9),
+                answer: Answer::failed(objects::OUT_OF_TURN),
             };
         }
         let room = subscription::lowest_unused(entries);
         if room >= subscription::ENTRIES {
             return Ran {
                 device: self,
-                answer: Answer::failed(10),
+                answer: Answer::failed(objects::NO_ENTRY),
             };
         }
         self.subscriptions[room] = e;
@@ -170,7 +170,7 @@ impl Device {
         if objects::is_strange(part) {
             return Ran {
                 device: self,
-                answer: Answer::failed(6),
+                answer: Answer::failed(objects::STRANGE),
             };
         }
         let e = objects::entry(n, part, 0);
@@ -179,7 +179,7 @@ impl Device {
         if twin >= subscription::ENTRIES {
             return Ran {
                 device: self,
-                answer: Answer::failed(9),
+                answer: Answer::failed(objects::OUT_OF_TURN),
             };
         }
         self.subscriptions[twin] = Subscription::FREE;
@@ -241,25 +241,25 @@ impl Device {
         if !objects::is_object(target) {
             return Ran {
                 device: self,
-                answer: Answer::failed(5),
+                answer: Answer::failed(objects::NO_OBJECT),
             };
         }
         if !objects::has_method(target, m) {
             return Ran {
                 device: self,
-                answer: Answer::failed(11),
+                answer: Answer::failed(objects::NO_METHOD),
             };
         }
         if objects::is_forbidden(target, m) {
             return Ran {
                 device: self,
-                answer: Answer::failed(8),
+                answer: Answer::failed(objects::FORBIDDEN),
             };
         }
         if objects::is_malformed(m, count, part) {
             return Ran {
                 device: self,
-                answer: Answer::failed(4),
+                answer: Answer::failed(objects::MALFORMED),
             };
         }
         self.act(n, target, m, part)

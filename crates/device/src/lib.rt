@@ -62,7 +62,7 @@ impl Device {
     {
         let connections = [Connection::CLOSED; 8];
         let subscriptions = [Subscription::FREE; 32];
-        let mutes = [2u8; 8];
+        let mutes = [objects::UNMUTED; 8];
         let holders = [0u8; 8];
         Device {
             reading,

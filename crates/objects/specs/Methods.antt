@@ -1,5 +1,6 @@
 -- The objects and their methods: document 01 'Our objects'.
-use Prim.Native.Nat.{ℕ, _+_, _*_, _-_}
+use Prim.Native.Nat.{ℕ, _+_, _*_, _-_, _<_}
+use mathlib.Core.Path.{_≡_}
 use mathlib.Core.Bool.{Bool, _&&_, _||_}
 use lib.Dec.{eqb}
 use Rattle.subscription.specs.State.{firstMute, isMute}
@@ -14,6 +15,10 @@ subscriptionManager = 4
 -- "A method or event is level 2, index 2", as one number
 abbrev pub methodNumber : ℕ → ℕ → ℕ
 methodNumber level index = level * 65536 + index
+
+-- the numbers of two methods differ where their levels or indexes do
+pub record MethodsApart : Type 0 where
+  pub told : (a i b j : ℕ) → i < 65536 → j < 65536 → methodNumber a i ≡ methodNumber b j → (a ≡ b) × (i ≡ j)
 
 -- "All: 1.1 class identification, 1.2 lockable, 1.3 lock, 1.4 unlock"
 abbrev pub classMethod : ℕ

@@ -64,9 +64,16 @@ isStrange part = not (isMute (be32At part 0) && eqb (be32At part 4) changeEvent)
 unfoldable pub isEmitterBad : ℕ → List ℕ → Bool
 isEmitterBad m part = isSubscribing m && isStrange part
 
+-- "Mutes start at 2 (unmuted); 1 is muted"
+abbrev pub muted : ℕ
+muted = 1
+
+abbrev pub unmuted : ℕ
+unmuted = 2
+
 -- "mutes are 1 or 2"
 unfoldable pub isMuteValue : ℕ → Bool
-isMuteValue v = eqb v 1 || eqb v 2
+isMuteValue v = eqb v muted || eqb v unmuted
 
 -- "7 mode not 1, or mute not 1 or 2"
 unfoldable pub isValueBad : ℕ → List ℕ → Bool

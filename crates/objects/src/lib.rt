@@ -7,7 +7,7 @@ ghost use Prim.Native.Nat.{_<_, _≤_};
 ghost use lib.ListN.{length};
 ghost use Rattle.laws.specs.Lists.{all};
 ghost use Rattle.subscription.specs.State.{isMute};
-ghost use Rattle.objects.specs.Methods.{methodNumber, placeOf, isManager, isObject, isTelling, isLocking, hasMethod};
+ghost use Rattle.objects.specs.Methods.{MethodsApart, methodNumber, placeOf, isManager, isObject, isTelling, isLocking, hasMethod};
 ghost use Rattle.objects.specs.Tests.{isForbidden, countOf, lengthOf, isMalformed, entryOf, withContext, isStrange, isMuteValue};
 ghost use Rattle.objects.specs.Answers.{classOf, identificationOf, failedOf, toldOf};
 
@@ -35,6 +35,29 @@ pub const RESET_KEY: u32 = 196622;
 pub const GET: u32 = 262145;
 
 pub const SET: u32 = 262146;
+
+pub const MUTED: u8 = 1;
+
+pub const UNMUTED: u8 = 2;
+
+// Statuses, in the order in which they are tested.
+pub const NO_OBJECT: u8 = 5;
+
+pub const NO_METHOD: u8 = 11;
+
+pub const FORBIDDEN: u8 = 8;
+
+pub const MALFORMED: u8 = 4;
+
+pub const HELD_BY_OTHER: u8 = 3;
+
+pub const STRANGE: u8 = 6;
+
+pub const BAD_VALUE: u8 = 7;
+
+pub const OUT_OF_TURN: u8 = 9;
+
+pub const NO_ENTRY: u8 = 10;
 
 // What a reply carries: numbers alone, so that it can be handed to a host in another language.
 pub struct Answer {
@@ -184,7 +207,7 @@ pub fn is_strange(part: &[u8]) -> bool
 pub fn is_mute_value(v: u8) -> bool
     ensures { λ r. ⌜ r ≡ isMuteValue v ⌝ }
 {
-    (v == 1) | (v == 2)
+    (v == MUTED) | (v == UNMUTED)
 }
 
 pub fn all_mute_values(mutes: [u8; 8]) -> bool
@@ -200,6 +223,10 @@ pub fn all_mute_values(mutes: [u8; 8]) -> bool
     }
     true
 }
+
+pub fn methods_apart()
+    ensures { λ _. ⌜ MethodsApart ⌝ }
+{}
 
 impl Answer {
     pub fn failed(status: u8) -> Answer
