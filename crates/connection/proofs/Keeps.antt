@@ -220,6 +220,15 @@ leaving step c = go (eqb (c .beat) 0) refl (leb (3 * c .beat) (c .silence + step
     go false z false e false f false g true l = rw (z, e, f, g, l)
     go false z false e false f false g false l = rw (z, e, f, g, l)
 
+counting : (step : ℕ) (c : Connection) → eqb (c .beat) 0 ≡ false → closesAt step c ≡ false → (tickedOf step c .silence ≡ c .silence + step) × (tickedOf step c .beat ≡ c .beat)
+unfolding tickedOf quietAfter
+counting step c z k = go (c .due) refl (leb (c .beat) (c .quiet + step)) refl
+  where
+    go : (d : Bool) → c .due ≡ d → (q : Bool) → leb (c .beat) (c .quiet + step) ≡ q → (tickedOf step c .silence ≡ c .silence + step) × (tickedOf step c .beat ≡ c .beat)
+    go true d q e = (rw (z, k, d), rw (z, k, d))
+    go false d true e = (rw (z, k, d, e), rw (z, k, d, e))
+    go false d false e = (rw (z, k, d, e), rw (z, k, d, e))
+
 pub supervision-kept : SupervisionKept
 supervision-kept =
     record {
@@ -231,5 +240,6 @@ supervision-kept =
       beating = beating;
       fitting = fitting;
       leaving = leaving;
+      counting = counting;
       telling = telling;
     }

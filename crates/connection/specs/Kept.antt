@@ -1,5 +1,5 @@
 -- What supervision keeps, for every connection.
-use Prim.Native.Nat.{ℕ, _^_, _<_}
+use Prim.Native.Nat.{ℕ, _+_, _^_, _<_}
 use mathlib.Core.Path.{_≡_}
 use mathlib.Core.Bool.{Bool, true, false, not, _&&_}
 use lib.Dec.{eqb, leb}
@@ -28,5 +28,7 @@ pub record SupervisionKept : Type 0 where
   pub fitting : (step : ℕ) (c : Connection) → step < 2 ^ 31 → connectionObeys c ≡ true → fitsStep step c ≡ true
   -- a tick closes exactly what it says
   pub leaving : (step : ℕ) (c : Connection) → tickedOf step c .live ≡ (c .live && not (closesAt step c))
+  -- a tick that leaves a supervised connection open adds the step to its silence and keeps its H
+  pub counting : (step : ℕ) (c : Connection) → eqb (c .beat) 0 ≡ false → closesAt step c ≡ false → (tickedOf step c .silence ≡ c .silence + step) × (tickedOf step c .beat ≡ c .beat)
   -- "in the same form with the same value": what a due keep-alive carries is what was set
   pub telling : (h : Heartbeat) (c : Connection) → eqb (beatOf h) 0 ≡ false → heartbeatOf (beatingOf h c) ≡ h

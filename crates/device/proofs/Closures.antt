@@ -1,9 +1,9 @@
 -- A closure frees what the connection had, and nothing else. No code is named. Assumes nothing.
-use Prim.Native.Nat.{ℕ, _+_, _-_, _^_}
+use Prim.Native.Nat.{ℕ, _+_, _-_, _^_, _<_}
 use mathlib.Core.Path.{_≡_, refl, sym, ap, _∙_}
 use mathlib.Core.Logic.{⊎-elim}
 use mathlib.Core.Bool.{Bool, true, false, cond, not, _&&_, and-false}
-use mathlib.Core.List.{List, map}
+use mathlib.Core.List.{List, [], map}
 use native.Mathlib.Omega.{arith}
 use borrow.Author.Tests.{eqb-true, eqb-false, ne-eqb, ltb-true, ltb-false}
 use lib.Dec.{eqb, leb, ltb}
@@ -19,14 +19,17 @@ use Rattle.subscription.specs.State.{free, sweptOf}
 use Rattle.subscription.specs.Rules.{isFree, entryObeys}
 use Rattle.subscription.specs.declared.Subscription.{Subscription}
 use Rattle.subscription.proofs.Keeps.{Sound, entry-view, free-unused}
-use Rattle.holders.specs.Holders.{holderObeys, sweptHolder}
+use Rattle.objects.specs.Methods.{lockMethod}
+use Rattle.holders.specs.Holders.{isOther, holderObeys, sweptHolder}
 use Rattle.holders.proofs.Keeps.{holders-kept}
 use Rattle.device.specs.State.{sweepOf, closeOf}
 use Rattle.device.specs.Rules.{deviceObeys}
+use Rattle.device.specs.Run.{runOf}
 use Rattle.device.specs.Time.{stepOf, advanced, tickBy, tickOf}
 use Rattle.device.specs.Closure.{isLockOf, isEntryOf, locksOf, entriesOf, noLocks, noEntries, Gone, Stays, freedOf, ClosureFrees}
 use Rattle.device.specs.declared.Device.{Device}
 use Rattle.device.proofs.Keeps.{obeys-are}
+use Rattle.device.proofs.Commands.{lock-free}
 
 -- ---- one holder, one entry
 module _ (cs : List Connection) (n : ℕ) where
@@ -189,6 +192,40 @@ module _ (d : Device) (reading n : ℕ) (b : leb (2 ^ 31) (stepOf reading (d .re
       rw (b, f)
       (sweep-stays d reading (map (tickedOf (stepOf reading (d .reading))) (d .connections)) n (live-ticked ∙ rw (l, c)))
 
+-- ---- a lock that is free again
+-- the holder at a place after a sweep
+swept-at : (cs : List Connection) (hs : List ℕ) (n at : ℕ) → liveAt cs n ≡ false → getD hs at 0 ≡ n + 1 → getD (map (sweptHolder cs) hs) at 0 ≡ 0
+unfolding sweptHolder holderObeys
+swept-at cs hs n at l e =
+    let p : n + 1 - 1 ≡ n = omega arith in
+    List·getD-map (sweptHolder cs) hs at 0 ∙ rw (e, ne-eqb (n + 1) 0 (λ z. omega arith), p, l)
+
+free-locks : (d : Device) (k at : ℕ) → at < 8 → getD (d .holders) at 0 ≡ 0 → runOf d k (4097 + at) lockMethod 0 [] .answer .status ≡ 0
+unfolding isOther
+free-locks d k at h e = lock-free d k at h (isOther (getD (d .holders) at 0) k) refl (rw e)
+
+releasing : (d : Device) (n k at : ℕ) → at < 8 → getD (d .holders) at 0 ≡ n + 1 → runOf (closeOf d n) k (4097 + at) lockMethod 0 [] .answer .status ≡ 0
+unfolding closeOf sweepOf
+releasing d n k at h e =
+    free-locks (closeOf d n) k at h (swept-at (set (d .connections) n closed) (d .holders) n at (live-closed (d .connections) n) e)
+
+expiring : (d : Device) (reading n k at : ℕ) → leb (2 ^ 31) (stepOf reading (d .reading)) ≡ false → all (fitsStep (stepOf reading (d .reading))) (d .connections) ≡ true → closesAt (stepOf reading (d .reading)) (getD (d .connections) n closed) ≡ true → at < 8 → getD (d .holders) at 0 ≡ n + 1 → runOf (tickOf d reading .device) k (4097 + at) lockMethod 0 [] .answer .status ≡ 0
+unfolding tickBy sweepOf
+expiring d reading n k at b f c h e =
+    let cs = map (tickedOf (stepOf reading (d .reading))) (d .connections) in
+    rw (b, f)
+    (free-locks (sweepOf (advanced d reading cs)) k at h
+    (swept-at cs (d .holders) n at (live-ticked d reading n b f ∙ rw (c, and-false)) e))
+
 pub closure-frees : ClosureFrees
 closure-frees =
-    record { closing = closing; others = others; same = same; wording = wording; ticking = ticking; staying = staying }
+    record {
+      closing = closing;
+      others = others;
+      same = same;
+      wording = wording;
+      releasing = releasing;
+      ticking = ticking;
+      staying = staying;
+      expiring = expiring;
+    }

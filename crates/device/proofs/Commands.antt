@@ -1,6 +1,6 @@
 -- Each outcome of a command, from what led to it. Assumes nothing.
 use Prim.Native.Nat.{ℕ, _+_, _-_, _<_, _≤_}
-use mathlib.Core.Path.{_≡_, refl, ap, _∙_}
+use mathlib.Core.Path.{_≡_, refl, sym, ap, _∙_}
 use mathlib.Core.Bool.{Bool, true, false, cond, not, or-false}
 use mathlib.Core.List.{List, [], _∷_, map}
 use native.Mathlib.Omega.{arith}
@@ -64,6 +64,10 @@ module _ (d : Device) (n at : ℕ) (h : at < 8) where
   module _ (b : Bool) (q : b ≡ isOther (getD (d .holders) at 0) n) where
     pub lock-other : b ≡ true → (a : Answer) → a ≡ failedOf 3 → unchanged d a ≡ runOf d n (4097 + at) lockMethod 0 []
     lock-other t a e = ran-failed d n (4097 + at) lockMethod 0 [] 3 (lock-status ∙ rw (← q, t)) refl a e
+
+    pub lock-free : b ≡ false → runOf d n (4097 + at) lockMethod 0 [] .answer .status ≡ 0
+    unfolding answerOf toldOf
+    lock-free t = ap (λ (r : Ran). r .answer .status) (sym (ran-done d n (4097 + at) lockMethod 0 [] (lock-status ∙ rw (← q, t))))
 
     pub lock-done : b ≡ false → (o : ℕ) → o ≡ ownerOf n → (a : Answer) → a ≡ toldOf [] → _≡_ {A = Ran} (record { device = withHolders d (set (d .holders) at o); answer = a }) (runOf d n (4097 + at) lockMethod 0 [])
     unfolding doneOf answerOf replyOf

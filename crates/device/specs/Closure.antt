@@ -1,17 +1,19 @@
 -- What a closure takes and leaves: document 01 'Time and supervision', "A closure frees the connection's locks, entries and waiting marks".
-use Prim.Native.Nat.{ℕ, _+_, _^_}
+use Prim.Native.Nat.{ℕ, _+_, _^_, _<_}
 use mathlib.Core.Path.{_≡_}
 use mathlib.Core.Bool.{Bool, true, false, cond, _&&_}
-use mathlib.Core.List.{List, map}
+use mathlib.Core.List.{List, [], map}
 use lib.Dec.{eqb, leb}
 use lib.ListN.{getD, set}
 use Rattle.laws.specs.Lists.{all}
 use Rattle.connection.specs.State.{closed, liveAt}
 use Rattle.connection.specs.Supervision.{fitsStep, closesAt}
-use Rattle.subscription.specs.State.{free}
+use Rattle.subscription.specs.State.{firstMute, free}
 use Rattle.subscription.specs.declared.Subscription.{Subscription}
-use Rattle.device.specs.State.{closeOf}
+use Rattle.objects.specs.Methods.{lockMethod}
+use Rattle.device.specs.State.{muteCount, closeOf}
 use Rattle.device.specs.Rules.{deviceObeys}
+use Rattle.device.specs.Run.{runOf}
 use Rattle.device.specs.Time.{stepOf, tickOf}
 use Rattle.device.specs.declared.Device.{Device}
 
@@ -65,6 +67,9 @@ pub record ClosureFrees : Type 0 where
   pub others : (d : Device) (n k : ℕ) → eqb k n ≡ false → liveAt (d .connections) k ≡ true → Stays k d (closeOf d n)
   pub same : (d : Device) (n k : ℕ) → eqb k n ≡ false → getD (closeOf d n .connections) k closed ≡ getD (d .connections) k closed
   pub wording : (d : Device) (n : ℕ) → deviceObeys d ≡ true → closeOf d n ≡ freedOf d n
+  -- a lock that the connection held can be taken
+  pub releasing : (d : Device) (n k at : ℕ) → at < muteCount → getD (d .holders) at 0 ≡ n + 1 → runOf (closeOf d n) k (firstMute + at) lockMethod 0 [] .answer .status ≡ 0
   -- a tick that is not refused
   pub ticking : (d : Device) (reading n : ℕ) → leb (2 ^ 31) (stepOf reading (d .reading)) ≡ false → all (fitsStep (stepOf reading (d .reading))) (d .connections) ≡ true → closesAt (stepOf reading (d .reading)) (getD (d .connections) n closed) ≡ true → Gone n d (tickOf d reading .device)
   pub staying : (d : Device) (reading n : ℕ) → leb (2 ^ 31) (stepOf reading (d .reading)) ≡ false → all (fitsStep (stepOf reading (d .reading))) (d .connections) ≡ true → liveAt (d .connections) n ≡ true → closesAt (stepOf reading (d .reading)) (getD (d .connections) n closed) ≡ false → Stays n d (tickOf d reading .device)
+  pub expiring : (d : Device) (reading n k at : ℕ) → leb (2 ^ 31) (stepOf reading (d .reading)) ≡ false → all (fitsStep (stepOf reading (d .reading))) (d .connections) ≡ true → closesAt (stepOf reading (d .reading)) (getD (d .connections) n closed) ≡ true → at < muteCount → getD (d .holders) at 0 ≡ n + 1 → runOf (tickOf d reading .device) k (firstMute + at) lockMethod 0 [] .answer .status ≡ 0
