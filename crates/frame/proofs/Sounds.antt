@@ -6,10 +6,10 @@ use mathlib.Core.Bool.{Bool, cond, true, false, true≢false}
 use native.Mathlib.Omega.{arith}
 use lib.ListN.{length, take, drop, getD}
 use lib.Seq.{getD-take, length-take-le}
-use Rattle.octets.specs.Numbers.{be16At}
+use Rattle.octets.specs.Numbers.{be16At, be32At}
 use Rattle.laws.proofs.Conds.{cond-left}
 use Rattle.frame.specs.Limits.{headerEnd, faultData}
-use Rattle.frame.specs.Header.{pduType, messageCount, messageLength, headerFault}
+use Rattle.frame.specs.Header.{pduSize, pduType, messageCount, messageLength, headerFault}
 use Rattle.frame.specs.Decide.{dataSound, decideData, decide, settled}
 use Rattle.frame.specs.Sound.{SoundAt}
 use Rattle.frame.specs.declared.Decision.{Decision}
@@ -17,13 +17,17 @@ use Rattle.frame.specs.declared.Decision.the-variants.{Undecided, Faulty
 use Rattle.frame.proofs.Headers.{sound-header}
 use Rattle.frame.proofs.Ways.{Way, none, start, few, header, part, whole, way, way-back}
 
--- a whole message's type and count are those of its header
-type-take : (n : ℕ) (s : List ℕ) → headerEnd ≤ n → pduType (take n s) ≡ pduType s
+-- a whole message's type, count and size are those of its header
+pub type-take : (n : ℕ) (s : List ℕ) → headerEnd ≤ n → pduType (take n s) ≡ pduType s
 type-take n s h = getD-take n s 7 0 (omega arith)
 
-count-take : (n : ℕ) (s : List ℕ) → headerEnd ≤ n → messageCount (take n s) ≡ messageCount s
+pub count-take : (n : ℕ) (s : List ℕ) → headerEnd ≤ n → messageCount (take n s) ≡ messageCount s
 unfolding be16At
 count-take n s h = rw (getD-take n s 8 0 (omega arith), getD-take n s 9 0 (omega arith))
+
+pub size-take : (n : ℕ) (s : List ℕ) → headerEnd ≤ n → pduSize (take n s) ≡ pduSize s
+unfolding be32At
+size-take n s h = rw (getD-take n s 3 0 (omega arith), getD-take n s 4 0 (omega arith), getD-take n s 5 0 (omega arith), getD-take n s 6 0 (omega arith))
 
 sound-way : (s : List ℕ) (n : ℕ) (d : Decision) → Way s d → d ≡ Sound n → SoundAt s n
 unfolding settled decideData

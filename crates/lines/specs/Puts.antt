@@ -1,11 +1,17 @@
 -- What the functions that put a line promise of the output.
-use Prim.Native.Nat.{ℕ, _+_}
+use Prim.Native.Nat.{ℕ, _+_, _≤_}
 use mathlib.Core.Path.{_≡_}
 use mathlib.Core.List.{List}
 use lib.ListN.{length}
 use lib.Seq.{sets}
+use Rattle.lines.specs.Text.{lineRoom}
 
 -- the bytes of a line were put at a place, all others stay, and the answer is the place behind them
 pub record Puts (line before : List ℕ) (at : ℕ) (after : List ℕ) (r : ℕ) : Type 0 where
   pub text : after ≡ sets before at line
   pub next : r ≡ at + length line
+
+-- and there are not more of them than the room of a line
+pub record PutsLine (line before : List ℕ) (at : ℕ) (after : List ℕ) (r : ℕ) : Type 0 where
+  pub puts : Puts line before at after r
+  pub room : r ≤ at + lineRoom

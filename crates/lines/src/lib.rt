@@ -6,7 +6,7 @@ ghost use Prim.Native.Nat.{_+_, _≤_};
 ghost use lib.Dec.{eqb};
 ghost use lib.ListN.{length};
 ghost use Rattle.lines.specs.Text.{lineRoom, space, newline, numberText, messageLine, stopLine, partLine, endLine};
-ghost use Rattle.lines.specs.Puts.{Puts};
+ghost use Rattle.lines.specs.Puts.{Puts, PutsLine};
 
 // Puts some bytes into the output at a place and answers the place behind them.
 fn put_bytes(out: &mut [u8], at: usize, s: &[u8]) -> usize
@@ -30,7 +30,7 @@ fn put_number(out: &mut [u8], at: usize, n: u64, mark: u8) -> usize
 
 pub fn put_message(out: &mut [u8], at: usize, offset: u64, kind: u8, count: u16, size: u16) -> usize
     requires { ⌜ at + lineRoom ≤ length (now out) ⌝ }
-    ensures { λ r. ⌜ Puts (messageLine offset kind count size) (now (out .entry)) at (now (out .exit)) r ⌝ }
+    ensures { λ r. ⌜ PutsLine (messageLine offset kind count size) (now (out .entry)) at (now (out .exit)) r ⌝ }
 {
     let a = put_number(out, at, offset, b' ');
     let b = put_number(out, a, kind as u64, b' ');
@@ -41,7 +41,7 @@ pub fn put_message(out: &mut [u8], at: usize, offset: u64, kind: u8, count: u16,
 // The offset, a word and a number.
 fn put_word(out: &mut [u8], at: usize, offset: u64, word: &[u8], n: u16) -> usize
     requires { ⌜ (at + lineRoom ≤ length (now out)) × (length (now word) ≡ 5) ⌝ }
-    ensures { λ r. ⌜ Puts (numberText offset space ++ (now (word .entry) ++ numberText n newline)) (now (out .entry)) at (now (out .exit)) r ⌝ }
+    ensures { λ r. ⌜ PutsLine (numberText offset space ++ (now (word .entry) ++ numberText n newline)) (now (out .entry)) at (now (out .exit)) r ⌝ }
 {
     let a = put_number(out, at, offset, b' ');
     let b = put_bytes(out, a, word);
@@ -50,7 +50,7 @@ fn put_word(out: &mut [u8], at: usize, offset: u64, word: &[u8], n: u16) -> usiz
 
 pub fn put_stop(out: &mut [u8], at: usize, offset: u64, fault: u8) -> usize
     requires { ⌜ at + lineRoom ≤ length (now out) ⌝ }
-    ensures { λ r. ⌜ Puts (stopLine offset fault) (now (out .entry)) at (now (out .exit)) r ⌝ }
+    ensures { λ r. ⌜ PutsLine (stopLine offset fault) (now (out .entry)) at (now (out .exit)) r ⌝ }
 {
     put_word(out, at, offset, b"stop ", fault as u16)
 }
@@ -58,7 +58,7 @@ pub fn put_stop(out: &mut [u8], at: usize, offset: u64, fault: u8) -> usize
 // The input ended with left bytes that decide nothing.
 pub fn put_end(out: &mut [u8], at: usize, offset: u64, left: u16) -> usize
     requires { ⌜ at + lineRoom ≤ length (now out) ⌝ }
-    ensures { λ r. ⌜ Puts (cond (eqb left 0) (endLine offset) (partLine offset left)) (now (out .entry)) at (now (out .exit)) r ⌝ }
+    ensures { λ r. ⌜ PutsLine (cond (eqb left 0) (endLine offset) (partLine offset left)) (now (out .entry)) at (now (out .exit)) r ⌝ }
 {
     if left == 0 {
         let a = put_number(out, at, offset, b' ');

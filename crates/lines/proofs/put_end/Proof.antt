@@ -28,7 +28,11 @@ returns : tie.Need-returns
 unfolding endLine
 returns c =
     let a = c .before .before .before .before .before .before .before .before .before .before .before .args in
-    simp (eq-eqb (a .left) 0 (omega arith)) (puts-then (c .before .before .before .before .before .before .before .put-number .ensures) (c .before .before .put-bytes .ensures))
+    simp (eq-eqb (a .left) 0 (omega arith))
+    (record {
+      puts = puts-then (c .before .before .before .before .before .before .before .put-number .ensures) (c .before .before .put-bytes .ensures);
+      room = omega (arith, short64 (a .offset) space (omega arith));
+    })
 
 slice-aggregate-put-word : tie.Need-slice-aggregate-put-word
 slice-aggregate-put-word c = search needs

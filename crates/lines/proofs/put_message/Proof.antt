@@ -38,7 +38,15 @@ same-length c = search needs
 returns : tie.Need-returns
 unfolding messageLine
 returns c =
-    puts-then (c .before .before .before .before .before .before .before .before .before .before .before .before .before .before .put-number .ensures) (puts-then (c .before .before .before .before .before .before .before .before .before .before .put-number2 .ensures) (puts-then (c .before .before .before .before .before .before .put-number3 .ensures) (c .before .before .put-number4 .ensures)))
+    let a = c .before .before .before .before .before .before .before .before .before .before .before .before .before .before .before .before .before .args in
+    let p1 = c .before .before .before .before .before .before .before .before .before .before .before .before .before .before .put-number .ensures in
+    let p2 = c .before .before .before .before .before .before .before .before .before .before .put-number2 .ensures in
+    let p3 = c .before .before .before .before .before .before .put-number3 .ensures in
+    let p4 = c .before .before .put-number4 .ensures in
+    record {
+      puts = puts-then p1 (puts-then p2 (puts-then p3 p4));
+      room = omega (arith, short64 (a .offset) space (omega arith), short8 (a .kind) space (omega arith), short16 (a .count) space (omega arith), short16 (a .size) newline (omega arith));
+    }
 
 pub put-message-spec : {M : Type 1} → statement M
 put-message-spec =

@@ -28,7 +28,15 @@ same-length : tie.Need-same-length
 same-length c = search needs
 
 returns : tie.Need-returns
-returns c = puts-then (c .before .before .before .before .before .before .before .before .before .before .put-number .ensures) (puts-then (c .before .before .before .before .before .before .put-bytes .ensures) (c .before .before .put-number2 .ensures))
+returns c =
+    let a = c .before .before .before .before .before .before .before .before .before .before .before .before .before .before .args in
+    let p = c .before .before .before .before .before .before .before .before .before .before .put-number .ensures in
+    let q = c .before .before .before .before .before .before .put-bytes .ensures in
+    let r = c .before .before .put-number2 .ensures in
+    record {
+      puts = puts-then p (puts-then q r);
+      room = omega (arith, short64 (a .offset) space (omega arith), short16 (a .n) newline (omega arith));
+    }
 
 pub put-word-spec : {M : Type 1} → statement M
 put-word-spec =

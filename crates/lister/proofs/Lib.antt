@@ -1,0 +1,6 @@
+pub mod Readings
+pub mod Walks
+pub mod Ends
+pub mod Moves
+pub mod Cuts
+pub mod Turnings

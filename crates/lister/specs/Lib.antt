@@ -1,0 +1,5 @@
+pub mod Listing
+pub mod Pieces
+pub mod Lists
+pub mod Turns
+pub mod Sample
