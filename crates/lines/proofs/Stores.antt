@@ -1,11 +1,11 @@
 -- Runs of stores, one behind another. Assumes nothing.
-use Prim.Native.Nat.{ℕ, zero, suc, _+_, _-_, _≤_, _<_}
+use Prim.Native.Nat.{ℕ, suc, _+_, _-_, _≤_}
 use mathlib.Core.Path.{_≡_, refl, sym, ap, _∙_}
 use mathlib.Core.List.{List, [], _∷_, _++_, append-assoc, append-nil}
 use native.Mathlib.Omega.{arith}
-use native.Mathlib.Nat.{add-zero, add-suc, suc-add, add-assoc}
+use native.Mathlib.Nat.{add-zero, add-assoc}
 use lib.ListN.{length, set, take, drop, length-append, length-drop, drop-of-length-le}
-use lib.Seq.{sets, length-sets, sets-eq, take-all, take-length, drop-drop}
+use lib.Seq.{sets, length-sets, sets-eq, take-length, drop-drop}
 use borrow.Rule.Slice.PartMut.{putMid}
 use Rattle.laws.proofs.Parts.{rest}
 use Rattle.lines.specs.Puts.{Puts}

@@ -1,11 +1,11 @@
 -- However the input is cut, what is printed is its listing. Assumes nothing.
-use Prim.Native.Nat.{ℕ, zero, suc, _+_, _-_, _≤_, _<_}
+use Prim.Native.Nat.{ℕ, zero, suc, _+_, _-_, _≤_}
 use mathlib.Core.Path.{_≡_, refl, sym, ap, _∙_}
 use mathlib.Core.List.{List, [], _∷_, _++_, append-assoc, append-nil}
-use mathlib.Core.Bool.{Bool, cond, true, false, false≢true, true≢false}
+use mathlib.Core.Bool.{cond, true, false, true≢false}
 use native.Mathlib.Omega.{arith}
-use native.Mathlib.Nat.{add-zero, add-assoc}
-use lib.ListN.{length, take, drop, length-drop}
+use native.Mathlib.Nat.{add-zero}
+use lib.ListN.{length, drop, length-drop}
 use lib.Seq.{length-take-le, drop-drop, take-append-le, drop-append-le}
 use Rattle.frame.specs.Limits.{greatestSize}
 use Rattle.frame.specs.Decide.{decide, settled}

@@ -1,13 +1,13 @@
 -- One turn of the listing, as a law on lists. Assumes nothing.
 use Prim.Native.Nat.{ℕ, _+_, _-_, _≤_, _<_}
 use mathlib.Core.Path.{_≡_, refl, sym, ap, _∙_}
-use mathlib.Core.List.{List, [], _++_}
+use mathlib.Core.List.{List, _++_}
 use mathlib.Core.Bool.{Bool, true, false, _||_, true≢false}
 use native.Mathlib.Omega.{arith}
 use lib.Dec.{eqb}
 use lib.ListN.{length, take, drop, length-drop, length-append}
 use lib.Seq.{sets, sets-eq, length-sets, take-at, take-add, length-take-le}
-use borrow.Author.Tests.{eq-eqb, eqb-false}
+use borrow.Author.Tests.{eqb-false}
 use Rattle.laws.proofs.Parts.{drop-take}
 use Rattle.frame.specs.Limits.{greatestSize}
 use Rattle.lister.specs.Listing.{listedBytes, unlisted}
@@ -75,6 +75,8 @@ module _ (i₀ i₁ i₂ o₀ o₁ : List ℕ) (offset held got : ℕ) (p : Piec
   turned w =
       record {
         piece = came;
+        failed = w;
+        ends = rw (came-length, ← joins, l .over);
         text = rw (came-length, ← joins, l .puts .text) (put-front o₀ (pieceText (eqb got 0) offset (take (held + got) i₁)) (omega (arith, l .room, l .puts .next, ap length (l .puts .text), length-sets o₀ 0 (pieceText (eqb got 0) offset (take (held + got) i₁)))));
         goes = λ e. goes (sym (l .over) ∙ or-left (p .over) w e) (p .over || w);
       }

@@ -15,27 +15,27 @@ ghost use Rattle.lines.specs.Puts.{PutsLine};
 ghost use Rattle.lister.specs.Listing.{messagesOf, lastLine};
 ghost use Rattle.lister.specs.Pieces.{overBy, Pieces};
 ghost use Rattle.lister.specs.Lists.{firstOf, Lists, ListsPiece};
-ghost use Rattle.lister.specs.Turns.{Ready, Turned};
+ghost use Rattle.lister.specs.Turns.{pieceBytes, Ready, Turned};
 ghost use Rattle.lister.specs.Sample.{SampleListed};
 
-// The input's buffer. A message has at least 10 bytes and its line at most 40, so io's large buffer has room for all lines of one piece.
+// The input's buffer. A message has at least 10 bytes and a line at most 40, so io's large buffer has room for the lines of a piece.
 pub const PIECE: usize = 16000;
 
 // Below it every offset of a piece fits 64 bits.
 pub const GREATEST_OFFSET: u64 = 18446744073709500000;
 
-pub struct Listed {
+struct Listed {
     // the bytes of the messages that were listed
-    pub used: usize,
+    used: usize,
     // the place in the output behind their lines
-    pub put: usize,
+    put: usize,
 }
 
-pub struct Piece {
-    pub used: usize,
-    pub put: usize,
+struct Piece {
+    used: usize,
+    put: usize,
     // the last line was put
-    pub over: bool,
+    over: bool,
 }
 
 struct Next {
@@ -85,7 +85,7 @@ fn list_first(s: &[u8], offset: u64, out: &mut [u8], at: usize) -> Listed
 }
 
 // Lists the sound messages at the front of s.
-pub fn list_messages(s: &[u8], offset: u64, out: &mut [u8]) -> Listed
+fn list_messages(s: &[u8], offset: u64, out: &mut [u8]) -> Listed
     requires { ⌜ (4 * length (now s) + lineRoom ≤ length (now out)) × (offset + length (now s) < 2 ^ 64) ⌝ }
     ensures { λ r. ⌜ Lists (messagesOf (now (s .entry))) (now (s .entry)) offset (now (out .entry)) 0 (now (out .exit)) r ⌝ }
 {
@@ -102,7 +102,7 @@ pub fn list_messages(s: &[u8], offset: u64, out: &mut [u8]) -> Listed
     Listed { used, put }
 }
 
-// Whether the last line is due before s, which no sound message leads.
+// Whether the last line is due at s, which no sound message leads.
 fn is_over(s: &[u8], end: bool) -> bool
     ensures { λ r. ⌜ r ≡ overBy end (decide (now (s .entry))) ⌝ }
 {
@@ -125,7 +125,7 @@ fn put_last(s: &[u8], offset: u64, out: &mut [u8], at: usize) -> usize
 }
 
 // Lists the bytes s, which stand from the offset on. end says that the input ends with them.
-pub fn list_piece(s: &[u8], offset: u64, out: &mut [u8], end: bool) -> Piece
+fn list_piece(s: &[u8], offset: u64, out: &mut [u8], end: bool) -> Piece
     requires { ⌜ (4 * length (now s) + lineRoom ≤ length (now out)) × (offset + length (now s) < 2 ^ 64) ⌝ }
     ensures { λ r. ⌜ ListsPiece end offset (now (s .entry)) (now (out .entry)) (now (out .exit)) r ⌝ }
 {
@@ -158,6 +158,7 @@ fn read_more(buf: &mut [u8], held: usize) -> usize
     io::count(got, &buf[held..])
 }
 
+// Answers whether all was written.
 fn write_out(s: &[u8]) -> bool {
     let is_written = io::write_all(STDOUT_FILENO, s);
     if !is_written {
@@ -198,12 +199,12 @@ fn turn(input: &mut [u8], out: &mut [u8], offset: u64, held: usize) -> Next
 }
 
 fn input_buffer() -> [u8; PIECE]
-    ensures { λ r. ⌜ 16000 ≡ length r ⌝ }
+    ensures { λ r. ⌜ pieceBytes ≡ length r ⌝ }
 {
     [0; PIECE]
 }
 
-// Lists standard input on standard output. Each turn but the last reads at least a byte.
+// Lists standard input on standard output. Each turn but the last reads a byte or more, so offset and bytes held grow to their limit.
 pub fn run() {
     let mut space = input_buffer();
     let mut text = io::large_buffer();

@@ -1,3 +1,4 @@
+use Rattle.lister.specs.Turns.{pieceBytes, textBytes}
 use lib.Seq.{length-take-le}
 use Rattle.lister.proofs.Turnings.{goes-on}
 use Prim.Native.Nat.{_+_, _-_, _≤_}
@@ -10,7 +11,7 @@ use Rattle.lister.proofs.run.Statement.{statement}
 use Rattle.lister.proofs.run.Tie as tie
 
 abbrev Inv-loop : tie.InvT-loop
-Inv-loop input₀ out₀ offset₀ held₀ input out offset held = (length input ≡ 16000) × (length out ≡ 65536) × (held ≤ greatestSize)
+Inv-loop input₀ out₀ offset₀ held₀ input out offset held = (length input ≡ pieceBytes) × (length out ≡ textBytes) × (held ≤ greatestSize)
 
 abbrev μ-loop : tie.MeasureT-loop
 μ-loop input₀ out₀ offset₀ held₀ input out offset held = 18446744073709551616 - (offset + held)
