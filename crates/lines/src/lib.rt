@@ -13,8 +13,8 @@ fn put_bytes(out: &mut [u8], at: usize, s: &[u8]) -> usize
     requires { ⌜ at + length (now s) ≤ length (now out) ⌝ }
     ensures { λ r. ⌜ Puts (now (s .entry)) (now (out .entry)) at (now (out .exit)) r ⌝ }
 {
-    let n = bytes::copy(s, &mut out[at..]);
-    at + n
+    octets::copy(s, out, at);
+    at + s.len()
 }
 
 fn put_number(out: &mut [u8], at: usize, n: u64, mark: u8) -> usize

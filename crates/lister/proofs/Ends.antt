@@ -8,7 +8,7 @@ use lib.ListN.{length, drop}
 use Rattle.frame.specs.Decide.{decide}
 use Rattle.lines.specs.Text.{lineRoom}
 use Rattle.lines.specs.Puts.{PutsLine}
-use Rattle.lines.proofs.Stores.{puts-then, puts-length}
+use Rattle.lines.proofs.Putting.{puts-then, puts-length}
 use Rattle.lister.specs.Listing.{messagesOf, bytesOf, linesOf, lastLine, listedBytes, unlisted}
 use Rattle.lister.specs.Pieces.{overBy, over, pieceText}
 use Rattle.lister.specs.Lists.{Lists, ListsPiece}

@@ -6,9 +6,11 @@ use mathlib.Core.Bool.{Bool, true, false, _||_, true≢false}
 use native.Mathlib.Omega.{arith}
 use lib.Dec.{eqb}
 use lib.ListN.{length, take, drop, length-drop, length-append}
-use lib.Seq.{sets, sets-eq, length-sets, take-at, take-add, length-take-le}
+use lib.Seq.{sets, length-sets, take-at, take-add, length-take-le}
 use borrow.Author.Tests.{eqb-false}
 use Rattle.laws.proofs.Parts.{drop-take}
+use Rattle.laws.proofs.Stores.{sets-front}
+use Rattle.laws.proofs.Tables.{or-neither}
 use Rattle.frame.specs.Limits.{greatestSize}
 use Rattle.lister.specs.Listing.{listedBytes, unlisted}
 use Rattle.lister.specs.Pieces.{over, pieceText}
@@ -18,13 +20,9 @@ use Rattle.lister.specs.declared.Piece.{Piece}
 use Rattle.lister.specs.declared.Next.{Next}
 use Rattle.lister.proofs.Cuts.{end-over, listed-within, pieces-laws}
 
-or-left : (a b : Bool) → a || b ≡ false → a ≡ false
-or-left true b e = e
-or-left false b e = refl
-
 -- what was put at the front of the output
 put-front : (out text : List ℕ) → length text ≤ length out → take (length text) (sets out 0 text) ≡ text
-put-front out text h = rw (sets-eq text out 0 (omega arith)) (take-at text _ (length text) refl)
+put-front out text h = rw (sets-front text out h) (take-at text (drop (length text) out) (length text) refl)
 
 -- a piece that does not end the listing
 on-some : (got : ℕ) (s : List ℕ) → over (eqb got 0) s ≡ false → (eqb got 0 ≡ false)
@@ -78,7 +76,7 @@ module _ (i₀ i₁ i₂ o₀ o₁ : List ℕ) (offset held got : ℕ) (p : Piec
         failed = w;
         ends = rw (came-length, ← joins, l .over);
         text = rw (came-length, ← joins, l .puts .text) (put-front o₀ (pieceText (eqb got 0) offset (take (held + got) i₁)) (omega (arith, l .room, l .puts .next, ap length (l .puts .text), length-sets o₀ 0 (pieceText (eqb got 0) offset (take (held + got) i₁)))));
-        goes = λ e. goes (sym (l .over) ∙ or-left (p .over) w e) (p .over || w);
+        goes = λ e. goes (sym (l .over) ∙ or-neither (p .over) w e .0) (p .over || w);
       }
 
 -- few bytes are held, and more bytes than before are read

@@ -1,7 +1,7 @@
 use native.Mathlib.Omega.{arith}
 use borrow.Author.Tests.{eq-eqb, ne-eqb}
 use Rattle.lines.specs.Text.{space, endLine, partLine}
-use Rattle.lines.proofs.Stores.{puts-then, puts-length}
+use Rattle.lines.proofs.Putting.{puts-then, puts-length}
 use Rattle.lines.proofs.Decimals.{short64}
 use borrow.Author.Needs.{needs}
 use Rattle.lines.proofs.put_end.Statement.{statement}

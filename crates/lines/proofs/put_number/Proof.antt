@@ -2,7 +2,7 @@ use mathlib.Core.Path.{_≡_, ap}
 use lib.ListN.{length, take}
 use native.Mathlib.Omega.{arith}
 use Rattle.lines.specs.Text.{decimalOf, numberText}
-use Rattle.lines.proofs.Stores.{puts-then, puts-one, puts-length}
+use Rattle.lines.proofs.Putting.{puts-then, puts-one, puts-length}
 use Rattle.lines.proofs.Decimals.{decimal-digits, number-length}
 use borrow.Author.Needs.{needs}
 use Rattle.lines.proofs.put_number.Statement.{statement}

@@ -2,7 +2,7 @@ use mathlib.Core.Path.{_∙_}
 use denote.Ref.{now}
 use lib.ListN.{drop, length-drop}
 use Rattle.laws.proofs.Parts.{rest}
-use Rattle.lines.proofs.Stores.{puts-length}
+use Rattle.lines.proofs.Putting.{puts-length}
 use Rattle.lister.proofs.Walks.{walked-none, walked-more, walked-stop, walked-all, nothing-unsound}
 use Prim.Native.Nat.{_-_}
 use lib.ListN.{length}

@@ -5,7 +5,7 @@ use Rattle.reader.specs.Read.{readOf}
 use Rattle.reader.specs.declared.Reading.the-variants.{Read, Fault, Short}
 use native.Mathlib.Omega.{arith}
 use Rattle.frame.proofs.Ways.{deciding}
-use Rattle.lines.proofs.Stores.{puts-none}
+use Rattle.lines.proofs.Putting.{puts-none}
 use Rattle.lister.specs.Listing.{lastBy, lastLine}
 use Rattle.lister.proofs.Readings.{read-sound, read-fault, read-short}
 use borrow.Author.Needs.{needs}
