@@ -19,7 +19,7 @@ use Rattle.frame.specs.declared.Decision.the-variants.{Undecided, Faulty, Sound
 use Rattle.frame.proofs.Ways.{deciding, unsettled}
 use Rattle.frame.proofs.Sounds.{sound-at}
 use Rattle.area.specs.Area.{partBytes, areaBytes, partAt, undecidedOf, partCleared}
-use Rattle.stream.proofs.Bytes.{beyond}
+use Rattle.frame.proofs.Bytes.{beyond}
 use Rattle.endpoint.specs.Deliver.{Lying, Whole, gathered}
 
 take-min : (a : ℕ) (l : List ℕ) → take (min a (length l)) l ≡ take a l

@@ -97,10 +97,6 @@ pub found-waits : (l : List Subscription) (i : ℕ) → i ≡ lowestWaiting l �
 found-waits l i e s h = rw e (index-meets isWaiting l free (omega arith))
 
 -- ---- what is sent
-pub told-is : (d f : Device) (i : ℕ) (s : Subscription) → s ≡ withWaiting (entryAt d i) false → f ≡ sentAt (withSubscriptions d (set (d .subscriptions) i s)) (entryAt d i .connection) → f ≡ notifiedOf d i
-unfolding notifiedOf
-told-is d f i s e q = q ∙ rw e
-
 sent-is : (kind n k : ℕ) (m : List ℕ) (r : Record) (d f : Device) (out o : List ℕ) → k ≡ length m → o ≡ atFront m out → f ≡ d → outcome (0 ∷ kind ∷ n ∷ k ∷ []) (stateOf f (r .held)) [] o ≡ sentOut kind n m r d out
 unfolding sentOut
 sent-is kind n k m r d f out o p q e = rw (p, q, e)

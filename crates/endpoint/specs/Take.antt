@@ -1,15 +1,15 @@
 -- Taking: document 01 'Our objects', "Take writes one message and names its connection".
 use Prim.Native.Nat.{ℕ}
-use mathlib.Core.Bool.{cond, false}
+use mathlib.Core.Bool.{cond}
 use mathlib.Core.List.{List, [], _∷_}
-use lib.ListN.{length, getD, set}
+use lib.ListN.{length, getD}
 use lib.Dec.{ltb}
 use Rattle.layout.specs.Message.{atFront}
 use Rattle.connection.specs.State.{connectionCount, closed, lowestDue}
 use Rattle.connection.specs.Supervision.{heartbeatOf}
-use Rattle.subscription.specs.State.{entryCount, free, lowestWaiting, withWaiting}
+use Rattle.subscription.specs.State.{entryCount, free, lowestWaiting}
 use Rattle.subscription.specs.declared.Subscription.{Subscription}
-use Rattle.device.specs.State.{withSubscriptions, sentAt}
+use Rattle.device.specs.State.{sentAt, toldAt}
 use Rattle.device.specs.Run.{muteAt}
 use Rattle.device.specs.declared.Device.{Device}
 use Rattle.replies.specs.Bytes.{notificationBytes, keepAliveBytes}
@@ -23,8 +23,7 @@ abbrev pub entryAt : Device → ℕ → Subscription
 entryAt d i = getD (d .subscriptions) i free
 
 unfoldable pub notifiedOf : Device → ℕ → Device
-notifiedOf d i =
-    sentAt (withSubscriptions d (set (d .subscriptions) i (withWaiting (entryAt d i) false))) (entryAt d i .connection)
+notifiedOf d i = sentAt (toldAt d i) (entryAt d i .connection)
 
 -- one message for connection n at the output's front
 unfoldable pub sentOut : ℕ → ℕ → List ℕ → Record → Device → List ℕ → Outcome

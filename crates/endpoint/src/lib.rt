@@ -1,20 +1,12 @@
 // The endpoint: the record that is passed and handed back, the lent area, and the calls of a host.
 use connection::Connection;
 use device::Device;
-use frame::Decision;
 ghost use mathlib.Core.Path.{_≡_};
-ghost use mathlib.Core.List.{[], _++_};
-ghost use Prim.Native.Nat.{_+_, _-_, _<_, _≤_};
-ghost use lib.ListN.{length, take};
-ghost use Rattle.frame.specs.Limits.{headerEnd};
-ghost use Rattle.frame.specs.Decide.{decide};
-ghost use Rattle.frame.specs.Sound.{SoundAt};
-ghost use Rattle.area.specs.Area.{areaBytes, undecidedOf};
-ghost use Rattle.endpoint.specs.State.{freshState, isLive, livesIn, recordObeys, closedState};
-ghost use Rattle.endpoint.specs.Numbers.{clearingNumbers, openingNumbers, closingNumbers, tickingNumbers, deliveryNumbers, takingNumbers, outcome};
+ghost use mathlib.Core.List.{[]};
+ghost use Prim.Native.Nat.{_<_};
+ghost use Rattle.endpoint.specs.State.{freshState, livesIn, recordObeys, closedState};
+ghost use Rattle.endpoint.specs.Numbers.{clearingNumbers, openingNumbers, closingNumbers, tickingNumbers, outcome};
 ghost use Rattle.endpoint.specs.Calls.{clearAnswer, clearedArea, openCall, closeCall, tickCall};
-ghost use Rattle.endpoint.specs.Deliver.{leastOutput, heldAt, Lying, gathered, messaged, deliveredBy, takenIn, deliverCall};
-ghost use Rattle.endpoint.specs.Take.{takenBy, takeCall};
 
 pub mod deliver;
 pub mod take;

@@ -3,34 +3,25 @@ use crate::Record;
 use crate::Taken;
 use crate::Taking;
 use device::Device;
-use subscription::Subscription;
 ghost use mathlib.Core.Path.{_≡_};
-ghost use mathlib.Core.Bool.{true, false};
+ghost use mathlib.Core.Bool.{true};
 ghost use mathlib.Core.List.{[]};
 ghost use Prim.Native.Nat.{_<_, _≤_};
 ghost use lib.ListN.{length};
-ghost use Rattle.subscription.specs.State.{isWaiting, withWaiting};
+ghost use Rattle.subscription.specs.State.{isWaiting};
 ghost use Rattle.endpoint.specs.State.{recordObeys};
 ghost use Rattle.endpoint.specs.Numbers.{takingNumbers, outcome};
 ghost use Rattle.endpoint.specs.Deliver.{leastOutput};
 ghost use Rattle.endpoint.specs.Take.{entryAt, notifiedOf, notifying, reminding, takeCall};
 
-fn unmarked(mut s: Subscription) -> Subscription
-    ensures { λ r. ⌜ r ≡ withWaiting s false ⌝ }
-{
-    s.waiting = false;
-    s
-}
-
 // The device once the notification of the entry at a place is sent.
-fn told(mut device: Device, at: usize) -> Device
+fn told(device: Device, at: usize) -> Device
     requires { ⌜ at < 32 ⌝ }
     ensures { λ r. ⌜ r ≡ notifiedOf device at ⌝ }
 {
     let s = device.subscriptions[at];
-    let next = unmarked(s);
-    device.subscriptions[at] = next;
-    device.sent(s.connection)
+    let d = device.told(at);
+    d.sent(s.connection)
 }
 
 impl Record {

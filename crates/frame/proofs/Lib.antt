@@ -2,3 +2,4 @@ pub mod Entries
 pub mod Headers
 pub mod Ways
 pub mod Sounds
+pub mod Bytes

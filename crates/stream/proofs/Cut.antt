@@ -12,7 +12,7 @@ use Rattle.frame.proofs.Ways.{deciding}
 use Rattle.stream.specs.Machine.{Call, deliver, ask, Whole, message, asked, Answer, more, refused, done, Held, put, only, whole, delivered, step, run, answered, answers}
 use Rattle.stream.specs.Cut.{singles, drip, drips, outcome}
 use Rattle.stream.specs.Promise.{Laws, Good}
-use Rattle.stream.proofs.Bytes.{part-waits, before-waits, beyond}
+use Rattle.frame.proofs.Bytes.{part-waits, before-waits, beyond}
 use Rattle.stream.proofs.Stream.{put-elim, step-good}
 use Rattle.stream.proofs.Lent.{put-same, put-other}
 

@@ -11,7 +11,8 @@ use Rattle.frame.specs.Decide.{decide, taken, settled}
 use Rattle.frame.proofs.Ways.{deciding}
 use Rattle.stream.specs.Machine.{Call, deliver, ask, Whole, message, asked, Answer, more, refused, done, Held, put, only, rules, whole, delivered, step, run, left, heard, glue, answered, answers}
 use Rattle.stream.specs.Promise.{Decides, Apt, Apts, Right, Told, Laws, Good, Streamed, Isolating, Closure}
-use Rattle.stream.proofs.Bytes.{nil-waits, glued, decides}
+use Rattle.frame.proofs.Bytes.{nil-waits, glued}
+use Rattle.stream.proofs.Bytes.{decides}
 
 -- what holds of x, and of what the other connections hold, holds after the put
 pub put-elim : (h : Held) (c : ℕ) (x : List ℕ) (n : ℕ) (P : List ℕ → Type 0) → (n ≡ c → P x) → P (h n) → P (put h c x n)

@@ -9,86 +9,66 @@ use Rattle.endpoint.specs.Numbers.{deliveryNumbers}
 use borrow.Author.Needs.{needs}
 use Rattle.endpoint.proofs.Record.deliver.Statement.{statement}
 use Rattle.endpoint.proofs.Record.deliver.Tie as tie
-use Rattle.endpoint.proofs.Record.deliver.Reads as reads
-use Rattle.endpoint.proofs.Record.deliver.Lts as lts
-use Rattle.area.proofs.area_sound.Reads as area-sound-reads
-use Rattle.connection.proofs.live_at.Reads as live-at-reads
-use Rattle.endpoint.proofs.Record.obeys.Reads as obeys-reads
-use Rattle.endpoint.proofs.Record.take_in.Reads as take-in-reads
 
--- src/deliver.rt:92:13
 obeys-requires : tie.Need-obeys-requires
 obeys-requires c κs = search needs
 
--- src/deliver.rt:93:13
 returns : tie.Need-returns
 unfolding deliveryNumbers
-returns c = 
+returns c =
     let a = c .before .before .before .before .before .args in
     deliver-bad (a .self) _ (c .before .obeys .ensures) (now (a .area)) (a .n) (now (a .piece)) (now (a .output)) (c .if1 .taken)
 
--- src/deliver.rt:99:30
 sub-area-sound : tie.Need-sub-area-sound
 sub-area-sound c = search needs
 
--- src/deliver.rt:99:30
 part-area-sound-start : tie.Need-part-area-sound-start
 part-area-sound-start c = search needs
 
--- src/deliver.rt:99:30
 part-area-sound-end : tie.Need-part-area-sound-end
 part-area-sound-end c = search needs
 
--- src/deliver.rt:99:13
 area-sound-requires : tie.Need-area-sound-requires
 area-sound-requires c κs = search needs
 
--- src/deliver.rt:100:13
 same-length : tie.Need-same-length
 same-length c = search needs
 
--- src/deliver.rt:100:13
 returns-2 : tie.Need-returns-2
 unfolding deliveryNumbers
-returns-2 c = 
+returns-2 c =
     let a = c .before .before .before .before .before .before .before .before .before .before .args in
     let u = c .before .before .before .before .before in
     deliver-area (a .self) _ (u .before .obeys .ensures) (now (a .area)) (a .n) (now (a .piece)) (now (a .output)) (u .if1 .left) _ (rest 0 (now (a .area))) _ (c .before .area-sound .ensures) (c .if2 .taken)
 
--- src/deliver.rt:107:13
 live-at-requires : tie.Need-live-at-requires
 live-at-requires c κs = search needs
 
--- src/deliver.rt:108:13
 same-length-2 : tie.Need-same-length-2
 same-length-2 c = search needs
 
--- src/deliver.rt:108:13
 returns-3 : tie.Need-returns-3
 unfolding deliveryNumbers
-returns-3 c = 
+returns-3 c =
     let a = c .before .before .before .before .before .before .before .before .before .before .before .before .before .before .args in
     let u = c .before .before .before .before .before .before .before .before .before in
     let v = c .before .before .before .before in
     deliver-none (a .self) _ (u .before .obeys .ensures) (now (a .area)) (a .n) (now (a .piece)) (now (a .output)) (u .if1 .left) _ (rest 0 (now (a .area))) _ (v .before .area-sound .ensures) (v .if2 .left) _ (c .before .live-at .ensures) (c .if3 .taken)
 
--- src/deliver.rt:114:13
 same-length-3 : tie.Need-same-length-3
 same-length-3 c = search needs
 
--- src/deliver.rt:114:13
 returns-4 : tie.Need-returns-4
 unfolding deliveryNumbers
-returns-4 c = 
+returns-4 c =
     let a = c .before .before .before .before .before .before .before .before .before .before .before .before .before .before .before .args in
     let u = c .before .before .before .before .before .before .before .before .before .before in
     let v = c .before .before .before .before .before in
     let w = c .before in
     deliver-room (a .self) _ (u .before .obeys .ensures) (now (a .area)) (a .n) (now (a .piece)) (now (a .output)) (u .if1 .left) _ (rest 0 (now (a .area))) _ (v .before .area-sound .ensures) (v .if2 .left) _ (w .before .live-at .ensures) (w .if3 .left) (omega arith)
 
--- src/deliver.rt:119:9
 take-in-requires : tie.Need-take-in-requires
-take-in-requires c κs = 
+take-in-requires c κs =
     let c8 : length (c .before .before .before .before .before .before .before .before .before .before .before .before .before .before .before .before .before .args .self .device .connections) ≡ 8 = search (length-mapped, needs) in
     let h8 : length (c .before .before .before .before .before .before .before .before .before .before .before .before .before .before .before .before .before .args .self .held) ≡ 8 = search needs in
     let a = c .before .before .before .before .before .before .before .before .before .before .before .before .before .before .before .before .before .args in
@@ -97,17 +77,14 @@ take-in-requires c κs =
     let w = c .before .before .before in
     (deliver-lies (a .self) _ (u .before .obeys .ensures) (now (a .area)) (a .n) (now (a .piece)) (now (a .output)) (u .if1 .left) _ (rest 0 (now (a .area))) _ (v .before .area-sound .ensures) (v .if2 .left) _ (w .before .live-at .ensures) (w .if3 .left) c8 h8, omega arith)
 
--- src/deliver.rt:89:5
 same-length-4 : tie.Need-same-length-4
 same-length-4 c = search needs
 
--- src/deliver.rt:89:5
 same-length-5 : tie.Need-same-length-5
 same-length-5 c = search needs
 
--- src/deliver.rt:89:5
 returns-5 : tie.Need-returns-5
-returns-5 c = 
+returns-5 c =
     let a = c .before .before .before .before .before .before .before .before .before .before .before .before .before .before .before .before .before .before .before .before .before .before .args in
     let u = c .before .before .before .before .before .before .before .before .before .before .before .before .before .before .before .before .before in
     let v = c .before .before .before .before .before .before .before .before .before .before .before .before in

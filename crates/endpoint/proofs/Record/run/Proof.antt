@@ -10,35 +10,25 @@ use Rattle.endpoint.proofs.Delivers.{messaged-is}
 use borrow.Author.Needs.{needs}
 use Rattle.endpoint.proofs.Record.run.Statement.{statement}
 use Rattle.endpoint.proofs.Record.run.Tie as tie
-use Rattle.endpoint.proofs.Record.run.Reads as reads
-use Rattle.endpoint.proofs.Record.run.Lts as lts
-use Rattle.area.proofs.clear_part.Reads as clear-part-reads
-use Rattle.rules.proofs.sound.Reads as sound-reads
 
--- src/deliver.rt:50:20
 mul-base : tie.Need-mul-base
 mul-base c = search needs
 
--- src/deliver.rt:51:19
 add-end : tie.Need-add-end
 add-end c = search needs
 
--- src/deliver.rt:53:46
 sub-sound : tie.Need-sub-sound
 sub-sound c = search needs
 
--- src/deliver.rt:53:46
 part-sound-start : tie.Need-part-sound-start
 part-sound-start c = search needs
 
--- src/deliver.rt:53:46
 part-sound-end : tie.Need-part-sound-end
 part-sound-end c = search needs
 
--- src/deliver.rt:53:13
 sound-requires : tie.Need-sound-requires
 unfolding undecidedOf
-sound-requires c κs = 
+sound-requires c κs =
     let s = c .before .before .before .before .before .before in
     let a = s .args in
     let w = s .pre .0 in
@@ -46,34 +36,27 @@ sound-requires c κs =
     let l : length (take (a .t) (drop (partAt (a .n)) (now (a .area)))) ≡ a .t = length-take-le (a .t) (drop (partAt (a .n)) (now (a .area))) (rw length-drop (omega (arith, w .number, w .long, w .fits))) in
     rw (z, l) (w .sound, s .pre .1)
 
--- src/deliver.rt:54:9
 clear-part-requires : tie.Need-clear-part-requires
 clear-part-requires c κs = search needs
 
--- src/deliver.rt:57:9
 mul-held : tie.Need-mul-held
 mul-held c = search needs
 
--- src/deliver.rt:57:9
 array-write-held : tie.Need-array-write-held
 array-write-held c = search needs
 
--- src/deliver.rt:60:39
 sub-t15 : tie.Need-sub-t15
 sub-t15 c = search needs
 
--- src/deliver.rt:45:5
 same-length : tie.Need-same-length
 same-length c = search needs
 
--- src/deliver.rt:45:5
 same-length-2 : tie.Need-same-length-2
 same-length-2 c = search needs
 
--- src/deliver.rt:45:5
 returns : tie.Need-returns
 unfolding undecidedOf
-returns c = 
+returns c =
     let s = c .before .before .before .before .before .before .before .before .before .before .before .before .before .before .before in
     let a = s .args in
     let z : partAt (a .n) + a .t - partAt (a .n) ≡ a .t = omega arith in

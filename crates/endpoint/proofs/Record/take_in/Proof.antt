@@ -13,41 +13,27 @@ use Rattle.endpoint.proofs.Delivers.{taken-waits, taken-closed, taken-r
 use borrow.Author.Needs.{needs}
 use Rattle.endpoint.proofs.Record.take_in.Statement.{statement}
 use Rattle.endpoint.proofs.Record.take_in.Tie as tie
-use Rattle.endpoint.proofs.Record.take_in.Reads as reads
-use Rattle.endpoint.proofs.Record.take_in.Lts as lts
-use Rattle.area.proofs.clear_part.Reads as clear-part-reads
-use Rattle.endpoint.proofs.Record.closed.Reads as closed-reads
-use Rattle.endpoint.proofs.Record.run.Reads as run-reads
-use Rattle.endpoint.proofs.Record.with_held.Reads as with-held-reads
-use Rattle.endpoint.proofs.deliver.gather.Reads as gather-reads
 
--- src/deliver.rt:71:17
 mul-k : tie.Need-mul-k
 mul-k c = search needs
 
--- src/deliver.rt:71:17
 array-read-k : tie.Need-array-read-k
 array-read-k c = search needs
 
--- src/deliver.rt:71:17
 cast-k : tie.Need-cast-k
 cast-k c = search needs
 
--- src/deliver.rt:72:15
 gather-requires : tie.Need-gather-requires
 gather-requires c κs = search needs
 
--- src/deliver.rt:74:48
 enum-told : tie.Need-enum-told
 enum-told c = search needs
 
--- src/deliver.rt:74:44
 add-with-held : tie.Need-add-with-held
 add-with-held c = search needs
 
--- src/deliver.rt:74:43
 cast-with-held : tie.Need-cast-with-held
-cast-with-held c = 
+cast-with-held c =
     let s = c .before .before .before .before .before .before .before .before .before .before in
     let a = s .args in
     let area = now (a .area) in
@@ -57,26 +43,21 @@ cast-with-held c =
     let w = s .pre .0 in
     record { fits = omega (arith, waits-few area n k w piece (cc)) }
 
--- src/deliver.rt:74:24
 with-held-requires : tie.Need-with-held-requires
 with-held-requires c κs = search needs
 
--- src/deliver.rt:77:30
 enum-known-f : tie.Need-enum-known-f
 enum-known-f c = search needs
 
--- src/deliver.rt:78:17
 clear-part-requires : tie.Need-clear-part-requires
 clear-part-requires c κs = search needs
 
--- src/deliver.rt:80:28
 closed-requires : tie.Need-closed-requires
 closed-requires c κs = search needs
 
--- src/deliver.rt:81:46
 sub-t30 : tie.Need-sub-t30
 unfolding settled taken
-sub-t30 c = 
+sub-t30 c =
     let s = c .before .before .before .before .before .before .before .before .before .before .before .before .before .before .before .before in
     let a = s .args in
     let area = now (a .area) in
@@ -88,13 +69,11 @@ sub-t30 c =
     let e : decide (undecidedOf area n k ++ piece) ≡ Faulty (f .0) (f .1 .0) = cc (c .before .before .before .before .before .before .f .given .1, c .before .before .before .before .before .before .before .before .before .before .gather .ensures .0) in
     omega (arith, rw e at (decided-behind area n k w piece (rw e)))
 
--- src/deliver.rt:84:29
 enum-known-t : tie.Need-enum-known-t
 enum-known-t c = search needs
 
--- src/deliver.rt:84:35
 run-requires : tie.Need-run-requires
-run-requires c κs = 
+run-requires c κs =
     let s = c .before .before .before .before .before .before .before .before .before .before .before .before .before in
     let a = s .args in
     let area = now (a .area) in
@@ -105,13 +84,11 @@ run-requires c κs =
     let t = c .before .before .before .t .given .0 .0 in
     (rw (c .before .before .before .before .before .before .before .gather .ensures .1) (message-whole area n k w piece t (cc)), omega arith)
 
--- src/deliver.rt:65:5
 same-length : tie.Need-same-length
 same-length c = search needs
 
--- src/deliver.rt:65:5
 returns : tie.Need-returns
-returns c = 
+returns c =
     let s = c .before .before .before .before .before .before .before .before .before .before .before in
     let a = s .args in
     let area = now (a .area) in
@@ -122,13 +99,11 @@ returns c =
     let e : decide (undecidedOf area n k ++ piece) ≡ Undecided = cc in
     taken-waits (a .self) area n k piece (now (a .output)) (c .with-held .result) (c .before .before .before .before .before .gather .last .0) e (c .with-held .ensures) (c .before .before .before .before .before .gather .ensures .1 ∙ waits-gathered area n k w piece e)
 
--- src/deliver.rt:65:5
 same-length-2 : tie.Need-same-length-2
 same-length-2 c = search needs
 
--- src/deliver.rt:65:5
 returns-2 : tie.Need-returns-2
-returns-2 c = 
+returns-2 c =
     let s = c .before .before .before .before .before .before .before .before .before .before .before .before .before .before .before .before in
     let a = s .args in
     let area = now (a .area) in
@@ -140,18 +115,15 @@ returns-2 c =
     let e : decide (undecidedOf area n k ++ piece) ≡ Faulty (f .0) (f .1 .0) = cc (c .before .before .before .before .before .before .f .given .1, c .before .before .before .before .before .before .before .before .before .before .gather .ensures .0) in
     taken-closed (a .self) area n k piece (now (a .output)) (f .0) (f .1 .0) (c .closed .result) (c .before .before .before .clear-part .last .0) e (c .closed .ensures) (c .before .before .before .clear-part .ensures ∙ ap (λ (l : List ℕ). partCleared l n) (c .before .before .before .before .before .before .before .before .before .before .gather .ensures .1) ∙ cleared-gathered area n k w piece)
 
--- src/deliver.rt:65:5
 same-length-3 : tie.Need-same-length-3
 same-length-3 c = search needs
 
--- src/deliver.rt:65:5
 same-length-4 : tie.Need-same-length-4
 same-length-4 c = search needs
 
--- src/deliver.rt:65:5
 returns-3 : tie.Need-returns-3
 unfolding taken
-returns-3 c = 
+returns-3 c =
     let s = c .before .before .before .before .before .before .before .before .before .before .before .before .before .before .before .before .before .before in
     let a = s .args in
     let area = now (a .area) in

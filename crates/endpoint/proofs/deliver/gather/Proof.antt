@@ -11,71 +11,52 @@ use Rattle.endpoint.proofs.Gathers.{room, copied, looked, same-decision
 use borrow.Author.Needs.{needs}
 use Rattle.endpoint.proofs.deliver.gather.Statement.{statement}
 use Rattle.endpoint.proofs.deliver.gather.Tie as tie
-use Rattle.endpoint.proofs.deliver.gather.Reads as reads
-use Rattle.endpoint.proofs.deliver.gather.Lts as lts
-use Rattle.endpoint.proofs.deliver.least.Reads as least-reads
-use Rattle.frame.proofs.decide.Reads as decide-reads
-use Rattle.octets.proofs.copy.Reads as copy-reads
 
--- src/deliver.rt:28:19
 sub-least : tie.Need-sub-least
 sub-least c = search needs
 
--- src/deliver.rt:28:9
 least-requires : tie.Need-least-requires
 least-requires c κs = search needs
 
--- src/deliver.rt:29:16
 mul-base : tie.Need-mul-base
 mul-base c = search needs
 
--- src/deliver.rt:30:15
 add-end : tie.Need-add-end
 add-end c = search needs
 
--- src/deliver.rt:30:15
 add-end-2 : tie.Need-add-end-2
 add-end-2 c = search needs
 
--- src/deliver.rt:31:18
 slice-aggregate-copy : tie.Need-slice-aggregate-copy
 slice-aggregate-copy c = sym (length-take-le (c .before .least .result) (c .before .before .before .before .args .piece .now) (omega arith))
 
--- src/deliver.rt:31:37
 add-copy : tie.Need-add-copy
 add-copy c = search needs
 
--- src/deliver.rt:31:5
 copy-requires : tie.Need-copy-requires
-copy-requires c κs = 
+copy-requires c κs =
     let a = c .before .before .before .before .before .args in
     let r = room (now (a .area)) (a .n) (a .k) (c .before .before .before .before .before .pre) in
     let l = length-take-le (c .before .before .least .result) (a .piece .now) (omega arith) in
     omega (arith, r, l, c .before .before .before .before .before .pre .few)
 
--- src/deliver.rt:32:19
 sub-decide : tie.Need-sub-decide
 sub-decide c = search needs
 
--- src/deliver.rt:32:19
 part-decide-start : tie.Need-part-decide-start
 part-decide-start c = search needs
 
--- src/deliver.rt:32:19
 part-decide-end : tie.Need-part-decide-end
 part-decide-end c = search needs
 
--- src/deliver.rt:32:5
 decide-requires : tie.Need-decide-requires
 decide-requires c κs = search needs
 
--- src/deliver.rt:24:1
 same-length : tie.Need-same-length
 same-length c = search needs
 
--- src/deliver.rt:24:1
 returns : tie.Need-returns
-returns c = 
+returns c =
     let s = c .before .before .before .before .before .before .before .before .before .before .before in
     let area = now (s .args .area) in
     let n = s .args .n in
