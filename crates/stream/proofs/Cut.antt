@@ -11,7 +11,7 @@ use Rattle.frame.specs.Decide.{decide, taken, settled}
 use Rattle.frame.proofs.Ways.{deciding}
 use Rattle.stream.specs.Machine.{Call, deliver, ask, Whole, message, asked, Answer, more, refused, done, Held, put, only, whole, delivered, step, run, answered, answers}
 use Rattle.stream.specs.Cut.{singles, drip, drips, outcome}
-use Rattle.stream.specs.Promise.{Laws, Good}
+use Rattle.stream.specs.Promise.{AllBytes, Laws, Good}
 use Rattle.frame.proofs.Bytes.{part-waits, before-waits, beyond}
 use Rattle.stream.proofs.Stream.{put-elim, step-good}
 use Rattle.stream.proofs.Lent.{put-same, put-other}
@@ -128,21 +128,21 @@ module _ {R Out Ask Room : Type 0} (rule : R → Whole Ask Room → R × Out) (o
 
       module _ (shut : Whole Ask Room → Out → ℕ → Bool) (Fine : R → Type 0) (laws : Laws rule open? admit shut Fine) where
         -- THE CUTTING THEOREM
-        pub uncut : (r : R) (h : Held) (cs : List (Call Ask Room)) → Good rule open? admit shut Fine r h
+        pub uncut : (r : R) (h : Held) (cs : List (Call Ask Room)) → AllBytes cs → Good rule open? admit shut Fine r h
             → outcome rule open? admit r h (drips spare ((run rule open? admit r h cs) .1)) ≡ outcome rule open? admit r h cs
-        unfolding run drips
-        uncut r h [] good = refl
-        uncut r h (c ∷ cs) good =
+        unfolding run drips AllBytes
+        uncut r h [] b good = refl
+        uncut r h (c ∷ cs) b good =
             let s = step rule open? admit r h c in
             rw (
               outcome-cons,
               outcome-append,
               drip-one r h c (good .waiting),
-              uncut (s .0 .0) (s .0 .1) cs (step-good rule open? admit shut Fine laws r h c good),
+              uncut (s .0 .0) (s .0 .1) cs (b .1) (step-good rule open? admit shut Fine laws r h c (b .0) good),
             )
 
         -- two runs that took the same bytes at the same places come to the same
-        pub recut : (r : R) (h : Held) (cs ds : List (Call Ask Room)) → Good rule open? admit shut Fine r h
+        pub recut : (r : R) (h : Held) (cs ds : List (Call Ask Room)) → AllBytes cs → AllBytes ds → Good rule open? admit shut Fine r h
             → drips spare ((run rule open? admit r h cs) .1) ≡ drips spare ((run rule open? admit r h ds) .1)
             → outcome rule open? admit r h cs ≡ outcome rule open? admit r h ds
-        recut r h cs ds good e = sym (uncut r h cs good) ∙ ap (outcome rule open? admit r h) e ∙ uncut r h ds good
+        recut r h cs ds b c good e = sym (uncut r h cs b good) ∙ ap (outcome rule open? admit r h) e ∙ uncut r h ds c good

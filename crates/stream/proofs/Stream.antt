@@ -10,9 +10,11 @@ use borrow.Author.Tests.{eqb-true}
 use Rattle.frame.specs.Decide.{decide, taken, settled}
 use Rattle.frame.proofs.Ways.{deciding}
 use Rattle.stream.specs.Machine.{Call, deliver, ask, Whole, message, asked, Answer, more, refused, done, Held, put, only, rules, whole, delivered, step, run, left, heard, glue, answered, answers}
-use Rattle.stream.specs.Promise.{Decides, Apt, Apts, Right, Told, Laws, Good, Streamed, Isolating, Closure}
+use Rattle.stream.specs.Promise.{Decides, Bytes, AllBytes, Apt, Apts, Right, Told, Laws, Good, Streamed, Isolating, Closure}
 use Rattle.frame.proofs.Bytes.{nil-waits, glued}
-use Rattle.stream.proofs.Bytes.{decides}
+use Rattle.octets.specs.Numbers.{Octets}
+use Rattle.octets.proofs.Digits.{octets-take}
+use Rattle.stream.proofs.Bytes.{decides, octets-nil, octets-append}
 
 -- what holds of x, and of what the other connections hold, holds after the put
 pub put-elim : (h : Held) (c : ℕ) (x : List ℕ) (n : ℕ) (P : List ℕ → Type 0) → (n ≡ c → P x) → P (h n) → P (put h c x n)
@@ -55,8 +57,11 @@ module _ {R Out Ask Room : Type 0} (rule : R → Whole Ask Room → R × Out) wh
       whole-good : (r : R) (h : Held) (w : Whole Ask Room) → Good rule open? admit shut Fine r h → Apt rule open? admit r w
           → Good rule open? admit shut Fine ((rule r w) .0) (only (open? ((rule r w) .0)) h)
       unfolding only
-      whole-good r h w good a = record { fine = laws .keeps r w (good .fine) a; waiting = λ n. wait n (open? ((rule r w) .0) n); empty = λ n e. rw e }
+      whole-good r h w good a = record { fine = laws .keeps r w (good .fine) a; waiting = λ n. wait n (open? ((rule r w) .0) n); empty = λ n e. rw e; octets = λ n. byte n (open? ((rule r w) .0) n) }
         where
+          byte : (n : ℕ) (t : Bool) → Octets (cond t (h n) [])
+          byte n true = good .octets n
+          byte n false = octets-nil
           wait : (n : ℕ) (t : Bool) → settled (decide (cond t (h n) [])) ≡ false
           wait n true = good .waiting n
           wait n false = nil-waits
@@ -77,26 +82,28 @@ module _ {R Out Ask Room : Type 0} (rule : R → Whole Ask Room → R × Out) wh
             fine = good .fine;
             waiting = λ n. put-elim h c [] n (λ x. settled (decide x) ≡ false) (λ q. nil-waits) (good .waiting n);
             empty = λ n z. put-elim h c [] n (λ x. x ≡ []) (λ q. refl) (good .empty n z);
+            octets = λ n. put-elim h c [] n (λ x. Octets x) (λ q. octets-nil) (good .octets n);
           }
 
-      one-delivery : (r : R) (h : Held) (c : ℕ) (p : List ℕ) (x : Room) → Good rule open? admit shut Fine r h
+      one-delivery : (r : R) (h : Held) (c : ℕ) (p : List ℕ) (x : Room) → Octets p → Good rule open? admit shut Fine r h
           → (q : ℕ) (b : Bool) → admit r c x ≡ q → settled (decide (h c ++ p)) ≡ b
           → One r h (deliver c p x) (delivered rule open? admit q b r h c p x)
       unfolding delivered whole heard rules answered Apts
-      one-delivery r h c p x good (suc q) b o e = record { good = good; held = refl; same = refl; apt = tt; right = (o, λ z. omega arith) }
-      one-delivery r h c p x good zero false o e =
+      one-delivery r h c p x op good (suc q) b o e = record { good = good; held = refl; same = refl; apt = tt; right = (o, λ z. omega arith) }
+      one-delivery r h c p x op good zero false o e =
           record {
             good = record {
               fine = good .fine;
               waiting = λ n. put-elim h c (h c ++ p) n (λ y. settled (decide y) ≡ false) (λ q. e) (good .waiting n);
               empty = λ n z. put-elim h c (h c ++ p) n (λ y. y ≡ []) (λ q. absurd (true≢false (sym (laws .admits r c x (good .fine) o) ∙ ap (open? r) (sym q) ∙ z))) (good .empty n z);
+              octets = λ n. put-elim h c (h c ++ p) n (λ y. Octets y) (λ q. octets-append (h c) p (good .octets c) op) (good .octets n);
             };
             held = refl;
             same = refl;
             apt = tt;
             right = (o, e);
           }
-      one-delivery r h c p x good zero true o e =
+      one-delivery r h c p x op good zero true o e =
           rw (glued (h c) p (good .waiting c) e)
           record {
             good = whole-good r (put h c []) (message c m x) (emptied r h c good) a;
@@ -116,27 +123,27 @@ module _ {R Out Ask Room : Type 0} (rule : R → Whole Ask Room → R × Out) wh
           fits = omega (arith, rw length-append at (deciding .within (h c ++ p)))
 
           a : Apt rule open? admit r (message c m x)
-          a = (o, rw (← (glued (h c) p (good .waiting c) e)) (decides (h c ++ p) e))
+          a = (o, rw (← (glued (h c) p (good .waiting c) e)) (decides (h c ++ p) e), octets-append (h c) (take (k - length (h c)) p) (good .octets c) (octets-take (k - length (h c)) p op))
 
-      one : (r : R) (h : Held) (c : Call Ask Room) → Good rule open? admit shut Fine r h → One r h c (step rule open? admit r h c)
+      one : (r : R) (h : Held) (c : Call Ask Room) → Bytes c → Good rule open? admit shut Fine r h → One r h c (step rule open? admit r h c)
       unfolding step whole heard rules answered Apts
-      one r h (deliver c p x) good = one-delivery r h c p x good (admit r c x) (settled (decide (h c ++ p))) refl refl
-      one r h (ask a) good = record { good = whole-good r h (asked a) good tt; held = whole-left r h (asked a) good tt; same = refl; apt = (tt, tt); right = tt }
+      one r h (deliver c p x) b good = one-delivery r h c p x b good (admit r c x) (settled (decide (h c ++ p))) refl refl
+      one r h (ask a) b good = record { good = whole-good r h (asked a) good tt; held = whole-left r h (asked a) good tt; same = refl; apt = (tt, tt); right = tt }
 
-      pub step-good : (r : R) (h : Held) (c : Call Ask Room) → Good rule open? admit shut Fine r h
+      pub step-good : (r : R) (h : Held) (c : Call Ask Room) → Bytes c → Good rule open? admit shut Fine r h
           → Good rule open? admit shut Fine ((step rule open? admit r h c) .0 .0) ((step rule open? admit r h c) .0 .1)
-      step-good r h c good = (one r h c good) .good
+      step-good r h c b good = (one r h c b good) .good
 
       -- THE STREAM THEOREM
-      pub stream : (r : R) (h : Held) (cs : List (Call Ask Room)) → Good rule open? admit shut Fine r h
+      pub stream : (r : R) (h : Held) (cs : List (Call Ask Room)) → AllBytes cs → Good rule open? admit shut Fine r h
           → Streamed rule open? admit shut Fine r h ((run rule open? admit r h cs) .0) ((run rule open? admit r h cs) .1)
-      unfolding rules run glue answers Apts Told
-      stream r h [] good = record { same = refl; apt = tt; told = tt; rest = refl; good = good }
-      stream r h (c ∷ cs) good =
+      unfolding rules run glue answers Apts Told AllBytes
+      stream r h [] b good = record { same = refl; apt = tt; told = tt; rest = refl; good = good }
+      stream r h (c ∷ cs) b good =
           let s = step rule open? admit r h c in
           let g = heard shut h c (s .1) in
-          let w = one r h c good in
-          let t = stream (s .0 .0) (s .0 .1) cs (w .good) in
+          let w = one r h c (b .0) good in
+          let t = stream (s .0 .0) (s .0 .1) cs (b .1) (w .good) in
           let es = (run rule open? admit (s .0 .0) (s .0 .1) cs) .1 in
           record {
             same = rw (w .held, rules-append, w .same, t .same);

@@ -4,6 +4,7 @@ use mathlib.Core.Path.{_≡_}
 use mathlib.Core.Bool.{Bool, true, false, not}
 use mathlib.Core.List.{List, [], _∷_, _++_}
 use lib.ListN.{length, take}
+use Rattle.octets.specs.Numbers.{Octets}
 use Rattle.frame.specs.Decide.{decide, taken, settled}
 use Rattle.stream.specs.Machine.{Call, deliver, ask, Whole, message, asked, Answer, more, refused, done, Held, put, rules, whole, step, run, heard, glue, answers}
 
@@ -12,11 +13,21 @@ pub record Decides (m : List ℕ) : Type 0 where
   pub settles : settled (decide m) ≡ true
   pub exactly : taken (decide m) ≡ length m
 
+-- pieces are made of bytes
+module _ {Ask Room : Type 0} where
+  abbrev pub Bytes : Call Ask Room → Type 0
+  Bytes (deliver c p x) = Octets p
+  Bytes (ask a) = Unit {0}
+
+  unfoldable pub AllBytes : List (Call Ask Room) → Type 0
+  AllBytes [] = Unit {0}
+  AllBytes (c ∷ cs) = Bytes c × AllBytes cs
+
 module _ {R Out Ask Room : Type 0} (rule : R → Whole Ask Room → R × Out) (open? : R → ℕ → Bool) (admit : R → ℕ → Room → ℕ)
   where
-    -- a whole call as the theorem hands it over: a message is admitted, and its last byte decides it
+    -- a whole call as the theorem hands it over: a message is admitted, its last byte decides it, and it is made of bytes
     abbrev pub Apt : R → Whole Ask Room → Type 0
-    Apt r (message c m x) = (admit r c x ≡ 0) × Decides m
+    Apt r (message c m x) = (admit r c x ≡ 0) × Decides m × Octets m
     Apt r (asked a) = Unit {0}
 
     -- each of them, at its place
@@ -48,11 +59,12 @@ module _ {R Out Ask Room : Type 0} (rule : R → Whole Ask Room → R × Out) (o
             → open? ((rule r w) .0) n ≡ not (shut w ((rule r w) .1) n)
         pub admits : (r : R) (c : ℕ) (x : Room) → Fine r → admit r c x ≡ 0 → open? r c ≡ true
 
-      -- the invariant of the endpoint over pieces: undecided bytes wait, and a closed connection has none
+      -- the invariant of the endpoint over pieces: undecided bytes wait, a closed connection has none, and they are bytes
       pub record Good (Fine : R → Type 0) (r : R) (h : Held) : Type 0 where
         pub fine : Fine r
         pub waiting : (n : ℕ) → settled (decide (h n)) ≡ false
         pub empty : (n : ℕ) → open? r n ≡ false → h n ≡ []
+        pub octets : (n : ℕ) → Octets (h n)
 
       -- of a run from r with h held that ends at s with the transcript t
       pub record Streamed (Fine : R → Type 0) (r : R) (h : Held) (s : R × Held) (t : List (Call Ask Room × Answer Out)) : Type 0 where

@@ -1,0 +1,88 @@
+-- Which connections are open after each call. Assumes nothing.
+use Prim.Native.Nat.{ℕ, zero, suc, _≤_, _<_}
+use mathlib.Core.Path.{_≡_, refl, sym, ap, _∙_, fun-ext}
+use mathlib.Core.Bool.{Bool, cond, true, false, not, _&&_, true≢false}
+use mathlib.Core.List.{List, [], _∷_, map}
+use native.Mathlib.Omega.{arith}
+use lib.Dec.{eqb, leb}
+use lib.ListN.{length, getD, set, List·getD-map, length-map}
+use borrow.Author.Tests.{eqb-true, eqb-false, eq-eqb, le-leb}
+use Rattle.frame.specs.Limits.{greatestSize}
+use Rattle.frame.specs.Decide.{decide, settled}
+use Rattle.frame.proofs.Ways.{deciding, unsettled}
+use Rattle.area.specs.Area.{countObeys, heldObeys}
+use Rattle.connection.specs.State.{closed, liveAt}
+use Rattle.connection.specs.declared.Connection.{Connection}
+use Rattle.device.specs.State.{closeOf}
+use Rattle.device.specs.Rules.{deviceObeys}
+use Rattle.device.specs.Closure.{ClosureFrees, Gone}
+use Rattle.device.specs.declared.Device.{Device}
+use Rattle.rules.specs.Rule.{Ruled, soundOf}
+use Rattle.device.proofs.Closures.{closure-frees}
+use Rattle.stream.specs.Machine.{Held, put, only}
+use Rattle.stream.specs.Lent.{flat, counted, livesOf}
+use Rattle.stream.specs.Promise.{Good}
+use Rattle.stream.proofs.Lent.{put-same, put-other, length-counted, getD-counted}
+use Rattle.stream.proofs.Stream.{put-elim}
+use Rattle.endpoint.specs.State.{stateOf, isLive, livesIn, recordObeys}
+use Rattle.promise.specs.Rules.{rule, open?, admit, shut, Fine}
+
+abbrev pub GoodAt : Device → Held → Type 0
+GoodAt d h = Good rule open? admit shut Fine d h
+
+pub lives-get : (d : Device) (k : ℕ) → getD (livesIn d) k false ≡ liveAt (d .connections) k
+unfolding livesIn liveAt
+lives-get d k = List·getD-map isLive (d .connections) k closed
+
+pub length-lives : (d : Device) → length (livesIn d) ≡ length (d .connections)
+unfolding livesIn
+length-lives d = length-map (d .connections) isLive
+
+-- each count obeys, so all do
+all-counts : (lives : List Bool) (held : List ℕ) → ((n : ℕ) → n < length lives → countObeys (getD lives n false) (getD held n 0) ≡ true) → heldObeys lives held ≡ true
+unfolding heldObeys
+all-counts [] held f = refl
+all-counts (b ∷ lives) [] f = refl
+all-counts (b ∷ lives) (k ∷ held) f = rw (f 0 (omega arith)) (all-counts lives held (λ n l. f (suc n) (omega arith)))
+
+-- undecided bytes are few, and a closed connection has none
+count-good : (live : Bool) (x : List ℕ) → settled (decide x) ≡ false → (live ≡ false → x ≡ []) → countObeys live (length x) ≡ true
+unfolding countObeys
+count-good true x w e = le-leb (length x) greatestSize (deciding .short x (unsettled (decide x) w))
+count-good false x w e = rw (e refl)
+
+pub held-obeys : (d : Device) (h : Held) → length (d .connections) ≡ 8 → ((n : ℕ) → settled (decide (h n)) ≡ false)
+    → ((n : ℕ) → liveAt (d .connections) n ≡ false → h n ≡ []) → heldObeys (livesIn d) (counted h 8) ≡ true
+held-obeys d h e w z =
+    all-counts (livesIn d) (counted h 8)
+    (λ n l.
+      let m : n < 8 = omega (arith, length-lives d) in
+      rw (lives-get d n, getD-counted h 8 n m) (count-good (liveAt (d .connections) n) (h n) (w n) (z n)))
+
+pub record-obeys : (d : Device) (h : Held) → GoodAt d h → recordObeys (stateOf d (counted h 8)) ≡ true
+unfolding recordObeys
+record-obeys d h good = rw (good .fine .obeys) (held-obeys d h (good .fine .eight) (good .waiting) (good .empty))
+
+-- bytes of closed connections are none already
+pub only-same : (t : ℕ → Bool) (h : Held) → ((n : ℕ) → t n ≡ false → h n ≡ []) → only t h ≡ h
+unfolding only
+only-same t h f = fun-ext λ n. go n (t n) refl
+  where
+    go : (n : ℕ) (b : Bool) → t n ≡ b → cond b (h n) [] ≡ h n
+    go n true e = refl
+    go n false e = sym (f n e)
+
+pub live-closed : (d : Device) (n k : ℕ) → eqb k n ≡ false → liveAt (closeOf d n .connections) k ≡ liveAt (d .connections) k
+unfolding liveAt
+live-closed d n k e = ap (λ (c : Connection). c .live) (closure-frees .same d n k e)
+
+pub live-gone : (d : Device) (n : ℕ) → liveAt (closeOf d n .connections) n ≡ false
+live-gone d n = closure-frees .closing d n .shut
+
+-- a sound message opens and closes no connection
+pub live-sound : (d : Device) (n : ℕ) (m : List ℕ) (k : ℕ) → liveAt (soundOf d n m .device .connections) k ≡ liveAt (d .connections) k
+live-sound d n m k = sym (lives-get (soundOf d n m .device) k) ∙ ap (λ (l : List Bool). getD l k false) (lives-sound d n m) ∙ lives-get d k
+  where
+    lives-sound : (d : Device) (n : ℕ) (m : List ℕ) → livesIn (soundOf d n m .device) ≡ livesIn d
+
+    lives-sound d n m = ?

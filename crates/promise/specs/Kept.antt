@@ -1,0 +1,30 @@
+-- What every call keeps: document 01 'Time and supervision', "After every call of demand 3 the record rules hold, and row 2 does
+-- not apply to the area".
+use Prim.Native.Nat.{ℕ}
+use mathlib.Core.Path.{_≡_}
+use mathlib.Core.Bool.{true}
+use mathlib.Core.List.{List}
+use lib.ListN.{length}
+use Rattle.octets.specs.Numbers.{Octets}
+use Rattle.octets.specs.Zeros.{zeros}
+use Rattle.area.specs.Area.{areaBytes, areaSound}
+use Rattle.stream.specs.Machine.{Call}
+use Rattle.stream.specs.Promise.{Bytes}
+use Rattle.endpoint.specs.State.{freshState, recordObeys}
+use Rattle.endpoint.specs.Numbers.{Outcome}
+use Rattle.endpoint.specs.Calls.{clearedArea}
+use Rattle.endpoint.specs.declared.Record.{Record}
+use Rattle.promise.specs.Rules.{Ask, callOf}
+
+-- rows 1 and 2 do not apply; the arrays have their lengths, and the area is made of bytes
+pub record Kept (r : Record) (area : List ℕ) : Type 0 where
+  pub obeys : recordObeys r ≡ true
+  pub sound : areaSound (r .held) area ≡ true
+  pub eight : length (r .device .connections) ≡ 8
+  pub counts : length (r .held) ≡ 8
+  pub octets : Octets area
+
+pub record CallsKeep : Type 0 where
+  pub fresh : (reading : ℕ) → Kept (freshState reading) (zeros areaBytes)
+  pub clearing : (area : List ℕ) → length area ≡ areaBytes → clearedArea area ≡ zeros areaBytes
+  pub calling : (r : Record) (area : List ℕ) (c : Call Ask (List ℕ)) → Bytes c → Kept r area → Kept (callOf r area c .state) (callOf r area c .area)

@@ -1,0 +1,132 @@
+-- Document 01's rules over whole messages, and the endpoint's calls as one function.
+use Prim.Native.Nat.{ℕ, zero, suc, _/_, _%_}
+use mathlib.Core.Path.{_≡_}
+use mathlib.Core.Bool.{Bool, cond, true, false}
+use mathlib.Core.List.{List, [], _∷_}
+use lib.ListN.{length, getD}
+use lib.Dec.{ltb, eqb}
+use Rattle.frame.specs.Decide.{decide}
+use Rattle.frame.specs.declared.Decision.{Decision}
+use Rattle.frame.specs.declared.Decision.the-variants.{Undecided, Faulty, Sound}
+use Rattle.layout.specs.Message.{atFront}
+use Rattle.connection.specs.State.{liveAt, lowestDue}
+use Rattle.subscription.specs.State.{lowestWaiting}
+use Rattle.device.specs.State.{openOf, closeOf}
+use Rattle.device.specs.Time.{tickOf}
+use Rattle.device.specs.Rules.{deviceObeys}
+use Rattle.device.specs.declared.Device.{Device}
+use Rattle.device.specs.declared.Opening.{Opening}
+use Rattle.device.specs.declared.Opening.the-variants as opens
+use Rattle.device.specs.declared.Ticking.{Ticking}
+use Rattle.device.specs.declared.Ticking.the-variants as ticks
+use Rattle.rules.specs.Rule.{Ruled, soundOf}
+use Rattle.stream.specs.Machine.{Call, deliver, ask, Whole, message, asked, Answer, more, refused, done, Held}
+use Rattle.stream.specs.Lent.{flat, counted}
+use Rattle.endpoint.specs.State.{stateOf}
+use Rattle.endpoint.specs.Numbers.{noConnection, noRoom, tableFull, clockBack, overrun, Outcome, outcome}
+use Rattle.endpoint.specs.Calls.{openCall, closeCall, tickCall}
+use Rattle.endpoint.specs.Deliver.{leastOutput, deliverCall}
+use Rattle.endpoint.specs.Take.{takenBy, takeCall}
+use Rattle.endpoint.specs.declared.Record.{Record}
+
+-- the calls that are no delivery
+pub data Ask : Type 0 where
+  opening : Ask
+  closing : ℕ → Ask
+  ticking : ℕ → Ask
+  taking : List ℕ → Ask
+
+-- a call of the rules, whose room is the output lent
+abbrev pub Asked : Type 0
+Asked = Whole Ask (List ℕ)
+
+-- what the rules answer: the paper's numbers, and the output
+pub record Given : Type 0 where
+  pub answer : List ℕ
+  pub output : List ℕ
+
+abbrev pub given : List ℕ → List ℕ → Given
+given answer output = record { answer = answer; output = output }
+
+-- a whole message: 2 and the reply's length, or 3 and the fault
+unfoldable pub messageBy : Decision → Device → ℕ → List ℕ → List ℕ → Device × Given
+messageBy Undecided d n m out = (d, given [] out)
+messageBy (Faulty fault t) d n m out = (closeOf d n, given (3 ∷ fault ∷ []) out)
+messageBy (Sound t) d n m out =
+    (soundOf d n m .device, given (2 ∷ length (soundOf d n m .reply) ∷ []) (atFront (soundOf d n m .reply) out))
+
+unfoldable pub openBy : Opening → Device → Device → Device × Given
+openBy (opens.Number n) d e = (e, given (0 ∷ n ∷ []) [])
+openBy opens.Full d e = (d, given (tableFull ∷ []) [])
+
+unfoldable pub closeBy : Bool → Device → ℕ → Device × Given
+closeBy true d n = (closeOf d n, given (0 ∷ []) [])
+closeBy false d n = (d, given (noConnection ∷ []) [])
+
+unfoldable pub tickBy : Ticking → Device → Device → Device × Given
+tickBy (ticks.Closed mask) d e = (e, given (0 ∷ mask ∷ []) [])
+tickBy ticks.ClockBack d e = (d, given (clockBack ∷ []) [])
+tickBy ticks.Overrun d e = (d, given (overrun ∷ []) [])
+
+-- taking is about the device alone
+unfoldable pub takeBy : Bool → Device → List ℕ → Device × Given
+takeBy true d out = (d, given (noRoom ∷ []) out)
+takeBy false d out =
+    let o = takenBy (stateOf d []) out (lowestWaiting (d .subscriptions)) (lowestDue (d .connections)) in
+    (o .state .device, given (o .answer) (o .output))
+
+-- THE RULES of document 01 when messages come whole
+unfoldable pub rule : Device → Asked → Device × Given
+rule d (message n m out) = messageBy (decide m) d n m out
+rule d (asked opening) = openBy (openOf d .answer) d (openOf d .device)
+rule d (asked (closing n)) = closeBy (liveAt (d .connections) n) d n
+rule d (asked (ticking reading)) = tickBy (tickOf d reading .answer) d (tickOf d reading .device)
+rule d (asked (taking out)) = takeBy (ltb (length out) leastOutput) d out
+
+abbrev pub open? : Device → ℕ → Bool
+open? d n = liveAt (d .connections) n
+
+-- a delivery's refusal by the device and the output: 3, then 4, else 0
+unfoldable pub admit : Device → ℕ → List ℕ → ℕ
+admit d n out = cond (liveAt (d .connections) n) (cond (ltb (length out) leastOutput) noRoom 0) noConnection
+
+-- bit n of a mask
+unfoldable pub bitOf : ℕ → ℕ → Bool
+bitOf mask zero = eqb (mask % 2) 1
+bitOf mask (suc n) = bitOf (mask / 2) n
+
+-- whom an answer closes
+unfoldable pub shut : Asked → Given → ℕ → Bool
+shut (message c m x) o n = cond (eqb (getD (o .answer) 0 0) 3) (eqb n c) false
+shut (asked opening) o n = false
+shut (asked (closing c)) o n = cond (eqb (getD (o .answer) 0 0) 0) (eqb n c) false
+shut (asked (ticking t)) o n = cond (eqb (getD (o .answer) 0 0) 0) (bitOf (getD (o .answer) 1 0) n) false
+shut (asked (taking x)) o n = false
+
+-- the record rules of the device, whose array has eight connections
+pub record Fine (d : Device) : Type 0 where
+  pub obeys : deviceObeys d ≡ true
+  pub eight : length (d .connections) ≡ 8
+
+-- ---- the endpoint's calls, by their definitions
+
+unfoldable pub callOf : Record → List ℕ → Call Ask (List ℕ) → Outcome
+callOf r area (deliver n piece out) = deliverCall r area n piece out
+callOf r area (ask opening) = outcome (openCall r .answer) (openCall r .state) area []
+callOf r area (ask (closing n)) = closeCall r area n
+callOf r area (ask (ticking reading)) = tickCall r area reading
+callOf r area (ask (taking out)) = outcome (takeCall r out .answer) (takeCall r out .state) area (takeCall r out .output)
+
+-- the numbers of a delivery that decided: 0, the kind, the bytes taken, the value
+unfoldable pub withTaken : ℕ → List ℕ → List ℕ
+withTaken k [] = []
+withTaken k (x ∷ rest) = 0 ∷ x ∷ k ∷ rest
+
+-- what a call is to give, where the machine over pieces comes to device d with h held and that answer
+unfoldable pub toldOf : Call Ask (List ℕ) → Device → Held → Answer Given → Outcome
+toldOf (deliver n piece out) d h more = outcome (0 ∷ 1 ∷ length piece ∷ []) (stateOf d (counted h 8)) (flat h 8) out
+toldOf (deliver n piece out) d h (refused q) = outcome (q ∷ []) (stateOf d (counted h 8)) (flat h 8) out
+toldOf (deliver n piece out) d h (done k o) = outcome (withTaken k (o .answer)) (stateOf d (counted h 8)) (flat h 8) (o .output)
+toldOf (ask a) d h more = outcome [] (stateOf d (counted h 8)) (flat h 8) []
+toldOf (ask a) d h (refused q) = outcome (q ∷ []) (stateOf d (counted h 8)) (flat h 8) []
+toldOf (ask a) d h (done k o) = outcome (o .answer) (stateOf d (counted h 8)) (flat h 8) (o .output)
