@@ -8,6 +8,7 @@ ghost use Rattle.frame.specs.Entry.{entriesFill};
 ghost use Rattle.frame.specs.Sound.{SoundAt};
 ghost use Rattle.layout.specs.Message.{atFront};
 ghost use Rattle.rules.specs.Rule.{Ruled, commandsOf, soundOf};
+ghost use Rattle.rules.specs.Kept.{SoundKept};
 
 // The device, and the length of the reply in the output.
 pub struct Ruling {
@@ -59,3 +60,8 @@ pub fn sound(device: Device, n: u8, m: &[u8], out: &mut [u8]) -> Ruling
         length: 0,
     }
 }
+
+// The theorems of a sound message, as the contract of a function that does nothing: it has its line in the verdict.
+pub fn sound_kept()
+    ensures { λ _. ⌜ SoundKept ⌝ }
+{}
