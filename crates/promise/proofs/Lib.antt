@@ -1,2 +1,4 @@
 pub mod Lives
 pub mod Bridge
+pub mod Asks
+pub mod Laws

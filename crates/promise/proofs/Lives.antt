@@ -4,6 +4,8 @@ use mathlib.Core.Path.{_≡_, refl, sym, ap, _∙_, fun-ext}
 use mathlib.Core.Bool.{Bool, cond, true, false, not, _&&_, true≢false}
 use mathlib.Core.List.{List, [], _∷_, map}
 use native.Mathlib.Omega.{arith}
+use native.Mathlib.Decide.{decLe}
+use lib.Seq.{getD-set-same, getD-set-other, set-out, ext-getD}
 use lib.Dec.{eqb, leb}
 use lib.ListN.{length, getD, set, List·getD-map, length-map}
 use borrow.Author.Tests.{eqb-true, eqb-false, eq-eqb, le-leb}
@@ -11,18 +13,22 @@ use Rattle.frame.specs.Limits.{greatestSize}
 use Rattle.frame.specs.Decide.{decide, settled}
 use Rattle.frame.proofs.Ways.{deciding, unsettled}
 use Rattle.area.specs.Area.{countObeys, heldObeys}
-use Rattle.connection.specs.State.{closed, liveAt}
+use Rattle.laws.specs.Lists.{any}
+use Rattle.connection.specs.State.{closed, opened, liveAt, isFree, lowestFree}
 use Rattle.connection.specs.declared.Connection.{Connection}
-use Rattle.device.specs.State.{closeOf}
+use Rattle.device.specs.State.{withConnections, openOf, closeOf, sentAt, toldAt}
 use Rattle.device.specs.Rules.{deviceObeys}
 use Rattle.device.specs.Closure.{ClosureFrees, Gone}
 use Rattle.device.specs.declared.Device.{Device}
+use Rattle.device.specs.declared.Opened.{Opened}
+use Rattle.device.specs.declared.Opening.the-variants.{Number, Full}
 use Rattle.rules.specs.Rule.{Ruled, soundOf}
+use Rattle.rules.proofs.Keeps.{sound-kept}
 use Rattle.device.proofs.Closures.{closure-frees}
 use Rattle.stream.specs.Machine.{Held, put, only}
 use Rattle.stream.specs.Lent.{flat, counted, livesOf}
 use Rattle.stream.specs.Promise.{Good}
-use Rattle.stream.proofs.Lent.{put-same, put-other, length-counted, getD-counted}
+use Rattle.stream.proofs.Lent.{put-same, put-other, length-counted, getD-counted, length-lives-of, getD-lives-of}
 use Rattle.stream.proofs.Stream.{put-elim}
 use Rattle.endpoint.specs.State.{stateOf, isLive, livesIn, recordObeys}
 use Rattle.promise.specs.Rules.{rule, open?, admit, shut, Fine}
@@ -56,8 +62,8 @@ pub held-obeys : (d : Device) (h : Held) → length (d .connections) ≡ 8 → (
 held-obeys d h e w z =
     all-counts (livesIn d) (counted h 8)
     (λ n l.
-      let m : n < 8 = omega (arith, length-lives d) in
-      rw (lives-get d n, getD-counted h 8 n m) (count-good (liveAt (d .connections) n) (h n) (w n) (z n)))
+    let m : n < 8 = omega (arith, length-lives d) in
+    rw (lives-get d n, getD-counted h 8 n m) (count-good (liveAt (d .connections) n) (h n) (w n) (z n)))
 
 pub record-obeys : (d : Device) (h : Held) → GoodAt d h → recordObeys (stateOf d (counted h 8)) ≡ true
 unfolding recordObeys
@@ -80,9 +86,58 @@ pub live-gone : (d : Device) (n : ℕ) → liveAt (closeOf d n .connections) n �
 live-gone d n = closure-frees .closing d n .shut
 
 -- a sound message opens and closes no connection
-pub live-sound : (d : Device) (n : ℕ) (m : List ℕ) (k : ℕ) → liveAt (soundOf d n m .device .connections) k ≡ liveAt (d .connections) k
-live-sound d n m k = sym (lives-get (soundOf d n m .device) k) ∙ ap (λ (l : List Bool). getD l k false) (lives-sound d n m) ∙ lives-get d k
-  where
-    lives-sound : (d : Device) (n : ℕ) (m : List ℕ) → livesIn (soundOf d n m .device) ≡ livesIn d
+pub lives-sound : (d : Device) (n : ℕ) (m : List ℕ) → livesIn (soundOf d n m .device) ≡ livesIn d
+unfolding livesIn
+lives-sound d n m = sound-kept .living d n m
 
-    lives-sound d n m = ?
+-- where no connection opened or closed
+pub live-alike : (d e : Device) (k : ℕ) → livesIn e ≡ livesIn d → liveAt (e .connections) k ≡ liveAt (d .connections) k
+live-alike d e k q = sym (lives-get e k) ∙ ap (λ (l : List Bool). getD l k false) q ∙ lives-get d k
+
+pub live-sound : (d : Device) (n : ℕ) (m : List ℕ) (k : ℕ) → liveAt (soundOf d n m .device .connections) k ≡ liveAt (d .connections) k
+live-sound d n m k = live-alike d (soundOf d n m .device) k (lives-sound d n m)
+
+-- nor does sending or telling
+pub lives-sent : (d : Device) (n : ℕ) → livesIn (sentAt d n) ≡ livesIn d
+unfolding livesIn
+lives-sent d n = sound-kept .sent-living d n
+
+pub lives-told : (d : Device) (i : ℕ) → livesIn (toldAt d i) ≡ livesIn d
+unfolding livesIn
+lives-told d i = sound-kept .told-living d i
+
+-- who is open stays open when another is opened
+live-still : (d : Device) (i k : ℕ) → liveAt (d .connections) k ≡ true → liveAt (set (d .connections) i opened) k ≡ true
+unfolding liveAt
+live-still d i k l = go (eqb k i) refl
+  where
+    here : k ≡ i → Dec (length (d .connections) ≤ i) → getD (set (d .connections) i opened) k closed .live ≡ true
+    here e (yes f) = rw (set-out (d .connections) i opened f) l
+    here e (no f) = rw (e, getD-set-same (d .connections) i opened closed (omega arith))
+
+    go : (b : Bool) → eqb k i ≡ b → getD (set (d .connections) i opened) k closed .live ≡ true
+    go false e = ap (λ (c : Connection). c .live) (getD-set-other (d .connections) i k opened closed (eqb-false k i e)) ∙ l
+    go true e = here (eqb-true k i e) (decLe (length (d .connections)) i)
+
+pub open-still : (d : Device) (k : ℕ) → liveAt (d .connections) k ≡ true → liveAt (openOf d .device .connections) k ≡ true
+unfolding openOf
+open-still d k l = go (any isFree (d .connections))
+  where
+    go : (b : Bool)
+        → liveAt (cond {A = Opened} b (record { device = withConnections d (set (d .connections) (lowestFree (d .connections)) opened); answer = Number (lowestFree (d .connections)) })
+        (record { device = d; answer = Full }) .device .connections) k ≡ true
+    go true = live-still d (lowestFree (d .connections)) k l
+    go false = l
+
+-- a list of eight tests, by its elements
+pub lives-eight : (e : Device) → length (e .connections) ≡ 8 → livesOf (open? e) 8 ≡ livesIn e
+lives-eight e q = ext-getD false (livesOf (open? e) 8) (livesIn e) (sizes (length-of (open? e) 8)) (λ i l. at (open? e) 8 i (omega (arith, length-of (open? e) 8)) ∙ sym (lives-get e i))
+  where
+    length-of : (t : ℕ → Bool) (n : ℕ) → length (livesOf t n) ≡ n
+    length-of t n = length-lives-of t n
+
+    sizes : length (livesOf (open? e) 8) ≡ 8 → length (livesOf (open? e) 8) ≡ length (livesIn e)
+    sizes a = a ∙ sym (length-lives e ∙ q)
+
+    at : (t : ℕ → Bool) (n i : ℕ) → i < n → getD (livesOf t n) i false ≡ t i
+    at t n i l = getD-lives-of t n i l

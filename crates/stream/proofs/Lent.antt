@@ -66,10 +66,19 @@ set-counted h (suc n) c x l = go (ℕ-discrete n c) (set-counted h n c x)
         rw (put-other h c x n d, ← (ih (omega arith)))
         (set-append-left (counted h n) (length (h n) ∷ []) c (length x) (rw (length-counted h n) (omega arith)))
 
-length-lives : (t : ℕ → Bool) (n : ℕ) → length (livesOf t n) ≡ n
+pub length-lives-of : (t : ℕ → Bool) (n : ℕ) → length (livesOf t n) ≡ n
 unfolding livesOf
-length-lives t zero = refl
-length-lives t (suc n) = rw (length-append, length-lives t n) (omega arith)
+length-lives-of t zero = refl
+length-lives-of t (suc n) = rw (length-append, length-lives-of t n) (omega arith)
+
+pub getD-lives-of : (t : ℕ → Bool) (n i : ℕ) → i < n → getD (livesOf t n) i false ≡ t i
+unfolding livesOf
+getD-lives-of t zero i l = absurd (not-suc-le-zero l)
+getD-lives-of t (suc n) i l = go (ℕ-discrete i n) (getD-lives-of t n i)
+  where
+    go : Dec (i ≡ n) → (i < n → getD (livesOf t n) i false ≡ t i) → getD (livesOf t n ++ (t n ∷ [])) i false ≡ t i
+    go (yes e) ih = rw e (getD-at (livesOf t n) (t n) [] false n (length-lives-of t n))
+    go (no d) ih = List·getD-append (livesOf t n) (t n ∷ []) false i (rw (length-lives-of t n) (omega arith)) ∙ ih (omega arith)
 
 held-snoc : (bs : List Bool) (b : Bool) (ks : List ℕ) (k : ℕ) → length bs ≡ length ks
     → heldKept (bs ++ (b ∷ [])) (ks ++ (k ∷ [])) ≡ heldKept bs ks ++ (cond b k 0 ∷ [])
@@ -83,7 +92,7 @@ pub held-counted : (t : ℕ → Bool) (h : Held) (n : ℕ) → heldKept (livesOf
 unfolding livesOf counted heldKept only
 held-counted t h zero = refl
 held-counted t h (suc n) =
-    held-snoc (livesOf t n) (t n) (counted h n) (length (h n)) (length-lives t n ∙ sym (length-counted h n))
+    held-snoc (livesOf t n) (t n) (counted h n) (length (h n)) (length-lives-of t n ∙ sym (length-counted h n))
     ∙ rw (held-counted t h n) (ap (λ (k : ℕ). counted (only t h) n ++ (k ∷ [])) (len (t n)))
   where
     len : (b : Bool) → cond b (length (h n)) 0 ≡ length (cond b (h n) [])
@@ -253,7 +262,7 @@ clears-flat : (t : ℕ → Bool) (h : Held) (n m : ℕ) → Small h → n ≤ m 
 unfolding livesOf cleared clearedFrom
 clears-flat t h zero m s l = refl
 clears-flat t h (suc n) m s l =
-    clears-snoc 0 (livesOf t n) (t n) (flat h m) ∙ rw (clears-flat t h n m s (omega arith), length-lives t n, zero-add) (go (t n))
+    clears-snoc 0 (livesOf t n) (t n) (flat h m) ∙ rw (clears-flat t h n m s (omega arith), length-lives-of t n, zero-add) (go (t n))
   where
     go : (b : Bool) → cond b (flat (cleared t n h) m) (partCleared (flat (cleared t n h) m) n) ≡ flat (cond b (cleared t n h) (put (cleared t n h) n [])) m
     go true = refl

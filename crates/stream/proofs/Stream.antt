@@ -62,6 +62,7 @@ module _ {R Out Ask Room : Type 0} (rule : R → Whole Ask Room → R × Out) wh
           byte : (n : ℕ) (t : Bool) → Octets (cond t (h n) [])
           byte n true = good .octets n
           byte n false = octets-nil
+
           wait : (n : ℕ) (t : Bool) → settled (decide (cond t (h n) [])) ≡ false
           wait n true = good .waiting n
           wait n false = nil-waits

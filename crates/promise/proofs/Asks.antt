@@ -1,0 +1,183 @@
+-- The calls that are no delivery, on a lent state, are the machine over pieces. Assumes nothing.
+use Prim.Native.Nat.{ℕ, zero, suc, _+_, _-_, _^_, _≤_, _<_}
+use mathlib.Core.Path.{_≡_, refl, sym, ap, _∙_, fun-ext}
+use mathlib.Core.Bool.{Bool, cond, true, false, true≢false}
+use mathlib.Core.List.{List, [], _∷_, _++_, map}
+use native.Mathlib.Omega.{arith}
+use lib.Dec.{ltb, eqb, leb}
+use lib.ListN.{length, getD, set, length-map}
+use borrow.Author.Tests.{eqb-true, eqb-false}
+use Rattle.laws.specs.Lists.{all, mask}
+use Rattle.area.specs.Area.{areaSound, partCleared, closedCleared, heldKept}
+use Rattle.connection.specs.State.{connectionCount, closed, liveAt, lowestDue}
+use Rattle.connection.specs.Supervision.{fitsStep, closesAt, tickedOf}
+use Rattle.frame.specs.Decide.{decide, settled}
+use Rattle.subscription.specs.State.{entryCount, lowestWaiting}
+use Rattle.device.specs.State.{openOf, closeOf, sweepOf, sentAt, toldAt}
+use Rattle.device.specs.Time.{stepOf, advanced, tickBy, tickOf}
+use Rattle.device.specs.declared.Device.{Device}
+use Rattle.device.specs.declared.Opening.{Opening}
+use Rattle.device.specs.declared.Opening.the-variants as opens
+use Rattle.device.specs.declared.Ticking.{Ticking}
+use Rattle.device.specs.declared.Ticking.the-variants as ticks
+use Rattle.device.specs.declared.Ticked.{Ticked}
+use Rattle.stream.specs.Machine.{Call, deliver, ask, Whole, message, asked, Answer, more, refused, done, Held, put, only, whole, delivered, step}
+use Rattle.stream.specs.Lent.{flat, counted, livesOf}
+use Rattle.stream.proofs.Lent.{put-same, put-other, set-counted, clear-flat, closed-flat, held-counted}
+use Rattle.endpoint.specs.State.{stateOf, livesIn, recordObeys, closedState}
+use Rattle.endpoint.specs.Numbers.{Outcome, outcome}
+use Rattle.endpoint.specs.Calls.{openedBy, openCall, closeCall, tickedBy, tickCall}
+use Rattle.endpoint.specs.Deliver.{leastOutput, takenIn, deliverCall}
+use Rattle.endpoint.specs.Take.{entryAt, notifiedOf, sentOut, notifying, reminding, takenBy, takeCall}
+use Rattle.endpoint.specs.declared.Record.{Record}
+use Rattle.endpoint.proofs.States.{live-low}
+use Rattle.promise.specs.Rules as rules
+use Rattle.promise.specs.Rules.{Ask, opening, closing, ticking, taking, Given, given, rule, openBy, closeBy, takeBy, open?, admit, shut, Fine, callOf, toldOf}
+use Rattle.promise.proofs.Lives.{GoodAt, record-obeys, only-same, live-closed, live-gone, live-alike, lives-sent, lives-told, open-still, lives-eight}
+use Rattle.promise.proofs.Bridge.{small, area-sound, taken-told}
+
+-- what the machine does with a call that is no delivery
+abbrev pub asks : Device → Held → Ask → (Device × Held) × Answer Given
+asks d h a = whole rule open? admit d h (asked a) 0
+
+abbrev pub Told : Device → Held → Call Ask (List ℕ) → Type 0
+Told d h c =
+    let s = step rule open? admit d h c in
+    callOf (stateOf d (counted h 8)) (flat h 8) c ≡ toldOf c (s .0 .0) (s .0 .1) (s .1)
+
+-- what a taking comes to, by whether an entry waits and a connection is due
+abbrev ways : Bool → Bool → Record → List ℕ → ℕ → ℕ → Outcome
+ways b c r out i n = cond b (notifying r out i) (cond c (reminding r out n) (outcome (0 ∷ 0 ∷ []) r [] out))
+
+module _ (d : Device) (h : Held) (good : GoodAt d h) where
+  -- where no open connection was closed, the bytes are as they were
+  still : (e : Device) → ((k : ℕ) → liveAt (d .connections) k ≡ true → liveAt (e .connections) k ≡ true) → only (open? e) h ≡ h
+  still e f = only-same (open? e) h (λ k z. none k z (liveAt (d .connections) k) refl)
+    where
+      none : (k : ℕ) → liveAt (e .connections) k ≡ false → (b : Bool) → liveAt (d .connections) k ≡ b → h k ≡ []
+      none k z true l = absurd (true≢false (sym (f k l) ∙ z))
+      none k z false l = good .empty k l
+
+  alike : (e : Device) → livesIn e ≡ livesIn d → only (open? e) h ≡ h
+  alike e q = still e (λ k l. live-alike d e k q ∙ l)
+
+  same : only (open? d) h ≡ h
+  same = alike d refl
+
+  pub open-told : Told d h (ask opening)
+  unfolding callOf openCall step whole rule toldOf openedBy openBy
+  open-told = rw (record-obeys d h good) (go (openOf d .answer))
+    where
+      go : (x : Opening)
+          → let o = openedBy x (stateOf d (counted h 8)) (openOf d) in
+          let s = openBy x d (openOf d .device) in
+          outcome (o .answer) (o .state) (flat h 8) []
+          ≡ outcome (s .1 .answer) (stateOf (s .0) (counted (only (open? (s .0)) h) 8)) (flat (only (open? (s .0)) h) 8) (s .1 .output)
+      go (opens.Number i) = rw (still (openOf d .device) (open-still d))
+      go opens.Full = rw same
+
+  -- the bytes of the connection that is closed are gone
+  closed-bytes : (n : ℕ) → only (open? (closeOf d n)) h ≡ put h n []
+  unfolding only
+  closed-bytes n = fun-ext λ k. go k (eqb k n) refl (liveAt (d .connections) k) refl
+    where
+      go : (k : ℕ) (b : Bool) → eqb k n ≡ b → (l : Bool) → liveAt (d .connections) k ≡ l → cond (liveAt (closeOf d n .connections) k) (h k) [] ≡ put h n [] k
+      go k true e l q = rw (eqb-true k n e, live-gone d n, put-same h n [])
+      go k false e true q = rw (live-closed d n k e, q) (sym (put-other h n [] k (eqb-false k n e)))
+      go k false e false q = rw (live-closed d n k e, q) (sym (put-other h n [] k (eqb-false k n e) ∙ good .empty k q))
+
+  pub close-told : (n : ℕ) → Told d h (ask (closing n))
+  unfolding callOf closeCall step whole rule toldOf closeBy closedState
+  close-told n = rw (record-obeys d h good, area-sound d h good) (go (liveAt (d .connections) n) refl)
+    where
+      go : (b : Bool) → liveAt (d .connections) n ≡ b
+          → let s = closeBy b d n in
+          cond {A = Outcome} b (outcome (0 ∷ []) (closedState (stateOf d (counted h 8)) n) (partCleared (flat h 8) n) [])
+          (outcome (3 ∷ []) (stateOf d (counted h 8)) (flat h 8) [])
+          ≡ outcome (s .1 .answer) (stateOf (s .0) (counted (only (open? (s .0)) h) 8)) (flat (only (open? (s .0)) h) 8) (s .1 .output)
+      go true l =
+          let low = live-low (d .connections) n 8 l (good .fine .eight) in
+          rw (closed-bytes n, set-counted h 8 n [] low, clear-flat h 8 n (small d h good) low)
+      go false l = rw same
+
+  -- a tick keeps the number of connections
+  pub length-ticked : (reading : ℕ) → length (tickOf d reading .device .connections) ≡ 8
+  unfolding tickBy sweepOf
+  length-ticked reading = go (leb (2 ^ 31) (stepOf reading (d .reading))) (all (fitsStep (stepOf reading (d .reading))) (d .connections))
+    where
+      go : (a b : Bool)
+          → length (cond {A = Ticked} a (record { device = d; answer = ticks.ClockBack })
+          (cond b (record { device = sweepOf (advanced d reading (map (tickedOf (stepOf reading (d .reading))) (d .connections))); answer = ticks.Closed (mask (closesAt (stepOf reading (d .reading))) (d .connections)) })
+          (record { device = d; answer = ticks.Overrun })) .device .connections) ≡ 8
+      go true b = good .fine .eight
+      go false true = length-map (d .connections) (tickedOf (stepOf reading (d .reading))) ∙ good .fine .eight
+      go false false = good .fine .eight
+
+  pub tick-told : (reading : ℕ) → Told d h (ask (ticking reading))
+  unfolding callOf tickCall step whole rule toldOf tickedBy rules.tickBy
+  tick-told reading = rw (record-obeys d h good, area-sound d h good) (go (tickOf d reading .answer))
+    where
+      e : Device
+      e = tickOf d reading .device
+
+      kept : heldKept (livesIn (tickOf d reading .device)) (counted h 8) ≡ counted (only (open? (tickOf d reading .device)) h) 8
+      kept = rw (← lives-eight (tickOf d reading .device) (length-ticked reading)) (held-counted (open? (tickOf d reading .device)) h 8)
+
+      cleared : closedCleared (livesIn (tickOf d reading .device)) (flat h 8) ≡ flat (only (open? (tickOf d reading .device)) h) 8
+      cleared = rw (← lives-eight (tickOf d reading .device) (length-ticked reading)) (closed-flat (open? (tickOf d reading .device)) h 8 (small d h good))
+
+      go : (x : Ticking)
+          → let s = rules.tickBy x d (tickOf d reading .device) in
+          tickedBy x (stateOf d (counted h 8)) (tickOf d reading) (flat h 8)
+          ≡ outcome (s .1 .answer) (stateOf (s .0) (counted (only (open? (s .0)) h) 8)) (flat (only (open? (s .0)) h) 8) (s .1 .output)
+      go (ticks.Closed m) = rw (kept, cleared)
+      go ticks.ClockBack = rw same
+      go ticks.Overrun = rw same
+
+  -- the device after a taking has the same connections open
+  notified-lives : (i : ℕ) → livesIn (notifiedOf d i) ≡ livesIn d
+  unfolding notifiedOf
+  notified-lives i = lives-sent (toldAt d i) (entryAt d i .connection) ∙ lives-told d i
+
+  pub take-told : (out : List ℕ) → Told d h (ask (taking out))
+  unfolding callOf takeCall step whole rule toldOf takeBy takenBy notifying reminding sentOut
+  take-told out = rw (record-obeys d h good) (go (ltb (length out) leastOutput))
+    where
+      way : (b c : Bool)
+          → let o = ways b c (stateOf d (counted h 8)) out (lowestWaiting (d .subscriptions)) (lowestDue (d .connections)) in
+          let q = ways b c (stateOf d []) out (lowestWaiting (d .subscriptions)) (lowestDue (d .connections)) in
+          outcome (o .answer) (o .state) (flat h 8) (o .output)
+          ≡ outcome (q .answer) (stateOf (q .state .device) (counted (only (open? (q .state .device)) h) 8)) (flat (only (open? (q .state .device)) h) 8) (q .output)
+      way true c = rw (alike (notifiedOf d (lowestWaiting (d .subscriptions))) (notified-lives (lowestWaiting (d .subscriptions))))
+      way false true = rw (alike (sentAt d (lowestDue (d .connections))) (lives-sent d (lowestDue (d .connections))))
+      way false false = rw same
+
+      go : (a : Bool)
+          → let o = cond {A = Outcome} a (outcome (4 ∷ []) (stateOf d (counted h 8)) [] out) (takenBy (stateOf d (counted h 8)) out (lowestWaiting (d .subscriptions)) (lowestDue (d .connections))) in
+          let s = takeBy a d out in
+          outcome (o .answer) (o .state) (flat h 8) (o .output)
+          ≡ outcome (s .1 .answer) (stateOf (s .0) (counted (only (open? (s .0)) h) 8)) (flat (only (open? (s .0)) h) 8) (s .1 .output)
+      go true = rw same
+      go false = way (ltb (lowestWaiting (d .subscriptions)) entryCount) (ltb (lowestDue (d .connections)) connectionCount)
+
+  pub deliver-told : (n : ℕ) (p out : List ℕ) → Told d h (deliver n p out)
+  unfolding callOf deliverCall step admit toldOf delivered
+  deliver-told n p out =
+      rw (record-obeys d h good, area-sound d h good) (go (liveAt (d .connections) n) refl (ltb (length out) leastOutput))
+    where
+      go : (l : Bool) → liveAt (d .connections) n ≡ l → (b : Bool)
+          → let s = delivered rule open? admit (cond l (cond b 4 0) 3) (settled (decide (h n ++ p))) d h n p out in
+          cond {A = Outcome} l (cond b (outcome (4 ∷ []) (stateOf d (counted h 8)) (flat h 8) out) (takenIn (stateOf d (counted h 8)) (flat h 8) n (getD (counted h 8) n 0) p out))
+          (outcome (3 ∷ []) (stateOf d (counted h 8)) (flat h 8) out)
+          ≡ toldOf (deliver n p out) (s .0 .0) (s .0 .1) (s .1)
+      go false e b = refl
+      go true e true = refl
+      go true e false = taken-told d h good n e p out
+
+  -- THE BRIDGE: every call, by the definition that its contract cites
+  pub told : (c : Call Ask (List ℕ)) → Told d h c
+  told (deliver n p out) = deliver-told n p out
+  told (ask opening) = open-told
+  told (ask (closing n)) = close-told n
+  told (ask (ticking reading)) = tick-told reading
+  told (ask (taking out)) = take-told out

@@ -1,0 +1,248 @@
+-- The device of document 01 keeps the laws that the stream theorem asks. Assumes nothing.
+use Prim.Native.Nat.{ℕ, zero, suc, _+_, _-_, _*_, _/_, _%_, _^_, _≤_, _<_}
+use mathlib.Core.Path.{_≡_, refl, sym, ap, _∙_}
+use mathlib.Core.Bool.{Bool, cond, true, false, not, _&&_, true≢false}
+use mathlib.Core.List.{List, [], _∷_, map}
+use native.Mathlib.Omega.{arith}
+use native.Mathlib.Nat.{not-suc-le-zero, le-of-suc-le-suc}
+use lib.Dec.{ltb, eqb, leb}
+use lib.ListN.{length, getD, set, length-set, length-map, List·getD-map}
+use borrow.Author.Tests.{eqb-true, eqb-false}
+use Rattle.laws.specs.Lists.{all, any, mask}
+use Rattle.octets.specs.Numbers.{Octets}
+use Rattle.frame.specs.Decide.{decide, taken, settled}
+use Rattle.frame.specs.declared.Decision.{Decision}
+use Rattle.frame.specs.declared.Decision.the-variants.{Undecided, Faulty, Sound}
+use Rattle.frame.specs.Sound.{SoundAt}
+use Rattle.frame.proofs.Sounds.{sound-at}
+use Rattle.connection.specs.State.{connectionCount, closed, opened, liveAt, isFree, lowestFree, lowestDue}
+use Rattle.connection.specs.Supervision.{fitsStep, closesAt, tickedOf}
+use Rattle.connection.specs.Kept.{SupervisionKept}
+use Rattle.connection.specs.declared.Connection.{Connection}
+use Rattle.connection.proofs.Keeps.{supervision-kept}
+use Rattle.subscription.specs.State.{entryCount, lowestWaiting}
+use Rattle.device.specs.State.{withConnections, openOf, closeOf, sweepOf, sentAt, toldAt}
+use Rattle.device.specs.Rules.{deviceObeys}
+use Rattle.device.specs.Time.{stepOf, advanced, tickBy, tickOf}
+use Rattle.device.specs.declared.Device.{Device}
+use Rattle.device.specs.declared.Opened.{Opened}
+use Rattle.device.specs.declared.Opening.{Opening}
+use Rattle.device.specs.declared.Opening.the-variants as opens
+use Rattle.device.specs.declared.Ticked.{Ticked}
+use Rattle.device.specs.declared.Ticking.{Ticking}
+use Rattle.device.specs.declared.Ticking.the-variants as ticks
+use Rattle.device.proofs.Keeps.{rules-kept}
+use Rattle.rules.specs.Rule.{Ruled, soundOf}
+use Rattle.rules.proofs.Keeps.{sound-kept}
+use Rattle.stream.specs.Machine.{Whole, message, asked}
+use Rattle.stream.specs.Promise.{Decides, Apt, Laws}
+use Rattle.endpoint.specs.State.{stateOf, livesIn}
+use Rattle.endpoint.specs.Numbers.{Outcome, outcome}
+use Rattle.endpoint.specs.Deliver.{leastOutput}
+use Rattle.endpoint.specs.Take.{entryAt, notifiedOf, sentOut, notifying, reminding, takenBy}
+use Rattle.endpoint.proofs.States.{live-low}
+use Rattle.promise.specs.Rules as rules
+use Rattle.promise.specs.Rules.{Ask, opening, closing, ticking, taking, Asked, Given, given, messageBy, openBy, closeBy, takeBy, rule, open?, admit, bitOf, shut, Fine}
+use Rattle.promise.proofs.Lives.{live-closed, live-gone, live-alike, live-sound, lives-sent, lives-told, open-still}
+
+admit-live : (d : Device) (n : ℕ) (out : List ℕ) → admit d n out ≡ 0 → liveAt (d .connections) n ≡ true
+unfolding admit
+admit-live d n out e = go (liveAt (d .connections) n) (ltb (length out) leastOutput) e
+  where
+    go : (l b : Bool) → cond {A = ℕ} l (cond b 4 0) 3 ≡ 0 → l ≡ true
+    go true b e = refl
+    go false b e = absurd (omega arith)
+
+-- ---- keeps
+
+length-open : (d : Device) → length (openOf d .device .connections) ≡ length (d .connections)
+unfolding openOf
+length-open d = go (any isFree (d .connections))
+  where
+    go : (b : Bool)
+        → length (cond {A = Opened} b (record { device = withConnections d (set (d .connections) (lowestFree (d .connections)) opened); answer = opens.Number (lowestFree (d .connections)) })
+        (record { device = d; answer = opens.Full }) .device .connections) ≡ length (d .connections)
+    go true = length-set (d .connections) (lowestFree (d .connections)) opened
+    go false = refl
+
+length-close : (d : Device) (n : ℕ) → length (closeOf d n .connections) ≡ length (d .connections)
+unfolding closeOf sweepOf
+length-close d n = length-set (d .connections) n closed
+
+length-tick : (d : Device) (reading : ℕ) → length (tickOf d reading .device .connections) ≡ length (d .connections)
+unfolding tickBy sweepOf
+length-tick d reading = go (leb (2 ^ 31) (stepOf reading (d .reading))) (all (fitsStep (stepOf reading (d .reading))) (d .connections))
+  where
+    go : (a b : Bool)
+        → length (cond {A = Ticked} a (record { device = d; answer = ticks.ClockBack })
+        (cond b (record { device = sweepOf (advanced d reading (map (tickedOf (stepOf reading (d .reading))) (d .connections))); answer = ticks.Closed (mask (closesAt (stepOf reading (d .reading))) (d .connections)) })
+        (record { device = d; answer = ticks.Overrun })) .device .connections) ≡ length (d .connections)
+    go true b = refl
+    go false true = length-map (d .connections) (tickedOf (stepOf reading (d .reading)))
+    go false false = refl
+
+fine-closed : (d : Device) (n : ℕ) → Fine d → Fine (closeOf d n)
+fine-closed d n f = record { obeys = rules-kept .closing d n (f .obeys); eight = length-close d n ∙ f .eight }
+
+fine-sound : (d : Device) (n : ℕ) (m : List ℕ) → Fine d → Octets m → SoundAt m (length m) → liveAt (d .connections) n ≡ true → Fine (soundOf d n m .device)
+fine-sound d n m f o w l = record { obeys = sound-kept .obeying d n m o w l (f .obeys); eight = sound-kept .long d n m ∙ f .eight }
+
+fine-sent : (d : Device) (n : ℕ) → Fine d → Fine (sentAt d n)
+fine-sent d n f = record { obeys = rules-kept .sending d n (f .obeys); eight = sound-kept .sent-long d n ∙ f .eight }
+
+fine-told : (d : Device) (i : ℕ) → Fine d → Fine (toldAt d i)
+fine-told d i f = record { obeys = rules-kept .telling d i (f .obeys); eight = sound-kept .told-long d i ∙ f .eight }
+
+keeps-message : (d : Device) (n : ℕ) (m out : List ℕ) → Fine d → liveAt (d .connections) n ≡ true → Decides m → Octets m
+    → (x : Decision) → decide m ≡ x → Fine (messageBy x d n m out .0)
+unfolding messageBy taken
+keeps-message d n m out f l w o Undecided e = f
+keeps-message d n m out f l w o (Faulty fault t) e = fine-closed d n f
+keeps-message d n m out f l w o (Sound t) e =
+    let q : t ≡ length m = sym (ap taken e) ∙ w .exactly in
+    fine-sound d n m f o (rw q at (sound-at m t e)) l
+
+keeps-take : (d : Device) (out : List ℕ) → Fine d → (a : Bool) → Fine (takeBy a d out .0)
+unfolding takeBy takenBy notifying reminding sentOut notifiedOf
+keeps-take d out f true = f
+keeps-take d out f false = way (ltb (lowestWaiting (d .subscriptions)) entryCount) (ltb (lowestDue (d .connections)) connectionCount)
+  where
+    i : ℕ
+    i = lowestWaiting (d .subscriptions)
+
+    way : (b c : Bool)
+        → Fine (cond {A = Outcome} b (notifying (stateOf d []) out (lowestWaiting (d .subscriptions)))
+        (cond c (reminding (stateOf d []) out (lowestDue (d .connections))) (outcome (0 ∷ 0 ∷ []) (stateOf d []) [] out)) .state .device)
+    way true c = fine-sent (toldAt d (lowestWaiting (d .subscriptions))) (entryAt d (lowestWaiting (d .subscriptions)) .connection) (fine-told d (lowestWaiting (d .subscriptions)) f)
+    way false true = fine-sent d (lowestDue (d .connections)) f
+    way false false = f
+
+keeps : (d : Device) (w : Asked) → Fine d → Apt rule open? admit d w → Fine (rule d w .0)
+unfolding rule openBy closeBy rules.tickBy
+keeps d (message n m out) f a = keeps-message d n m out f (admit-live d n out (a .0)) (a .1) (a .2) (decide m) refl
+keeps d (asked opening) f a = go (openOf d .answer)
+  where
+    go : (x : Opening) → Fine (openBy x d (openOf d .device) .0)
+    go (opens.Number i) = record { obeys = rules-kept .opening d (f .obeys); eight = length-open d ∙ f .eight }
+    go opens.Full = f
+keeps d (asked (closing n)) f a = go (liveAt (d .connections) n)
+  where
+    go : (b : Bool) → Fine (closeBy b d n .0)
+    go true = fine-closed d n f
+    go false = f
+keeps d (asked (ticking reading)) f a = go (tickOf d reading .answer)
+  where
+    go : (x : Ticking) → Fine (rules.tickBy x d (tickOf d reading .device) .0)
+    go (ticks.Closed m) = record { obeys = rules-kept .ticking d reading (f .obeys); eight = length-tick d reading ∙ f .eight }
+    go ticks.ClockBack = f
+    go ticks.Overrun = f
+keeps d (asked (taking out)) f a = keeps-take d out f (ltb (length out) leastOutput)
+
+-- ---- tells
+
+bit-low : (m : ℕ) (b : Bool) → eqb ((cond b 1 0 + 2 * m) % 2) 1 ≡ b
+bit-low m true = let e : (1 + 2 * m) % 2 ≡ 1 = omega arith in rw e
+bit-low m false = let e : (0 + 2 * m) % 2 ≡ 0 = omega arith in rw e
+
+bit-half : (m : ℕ) (b : Bool) → (cond b 1 0 + 2 * m) / 2 ≡ m
+bit-half m true = omega arith
+bit-half m false = omega arith
+
+mask-bit : {A : Type 0} (p : A → Bool) (l : List A) (k : ℕ) (z : A) → k < length l → bitOf (mask p l) k ≡ p (getD l k z)
+unfolding bitOf
+mask-bit p [] k z h = absurd (not-suc-le-zero h)
+mask-bit p (x ∷ l) zero z h = bit-low (mask p l) (p x)
+mask-bit p (x ∷ l) (suc k) z h = rw (bit-half (mask p l) (p x)) (mask-bit p l k z (le-of-suc-le-suc h))
+
+-- a tick that is not refused
+closed-shape : (d : Device) (reading step m : ℕ) → tickBy d reading step .answer ≡ ticks.Closed m
+    → (tickBy d reading step .device .connections ≡ map (tickedOf step) (d .connections)) × (mask (closesAt step) (d .connections) ≡ m)
+unfolding tickBy sweepOf
+closed-shape d reading step m e = go (leb (2 ^ 31) step) (all (fitsStep step) (d .connections)) e
+  where
+    go : (a b : Bool)
+        → cond {A = Ticked} a (record { device = d; answer = ticks.ClockBack })
+        (cond b (record { device = sweepOf (advanced d reading (map (tickedOf step) (d .connections))); answer = ticks.Closed (mask (closesAt step) (d .connections)) })
+        (record { device = d; answer = ticks.Overrun })) .answer ≡ ticks.Closed m
+        → (cond {A = Ticked} a (record { device = d; answer = ticks.ClockBack })
+        (cond b (record { device = sweepOf (advanced d reading (map (tickedOf step) (d .connections))); answer = ticks.Closed (mask (closesAt step) (d .connections)) })
+        (record { device = d; answer = ticks.Overrun })) .device .connections ≡ map (tickedOf step) (d .connections)) × (mask (closesAt step) (d .connections) ≡ m)
+    go true b e = absurd (let z : _≡_ {A = ℕ} 0 1 = cc in omega arith)
+    go false true e = (refl, cc)
+    go false false e = absurd (let z : _≡_ {A = ℕ} 0 1 = cc in omega arith)
+
+-- a closed connection stays closed
+ticked-closed : (step : ℕ) → tickedOf step closed ≡ closed
+unfolding tickedOf
+ticked-closed step = refl
+
+-- it closes exactly the connections whose bits it sets
+closed-tells : (d : Device) (reading step m k : ℕ) → tickBy d reading step .answer ≡ ticks.Closed m → k < length (d .connections) → liveAt (d .connections) k ≡ true
+    → liveAt (tickBy d reading step .device .connections) k ≡ not (bitOf m k)
+unfolding liveAt
+closed-tells d reading step m k e h l =
+    let s = closed-shape d reading step m e in
+    let c = getD (d .connections) k closed in
+    let g : getD (map (tickedOf step) (d .connections)) k closed ≡ tickedOf step c =
+    ap (λ (z : Connection). getD (map (tickedOf step) (d .connections)) k z) (sym (ticked-closed step)) ∙ List·getD-map (tickedOf step) (d .connections) k closed in
+    let b : bitOf m k ≡ closesAt step c = rw (← s .1) (mask-bit (closesAt step) (d .connections) k closed h) in
+    let r : (c .live && not (closesAt step c)) ≡ not (bitOf m k) = rw (l, b) in
+    ap (λ (cs : List Connection). getD cs k closed .live) (s .0) ∙ ap (λ (z : Connection). z .live) g ∙ supervision-kept .leaving step c ∙ r
+
+tick-tells : (d : Device) (reading k : ℕ) → k < length (d .connections) → liveAt (d .connections) k ≡ true → (x : Ticking) → tickOf d reading .answer ≡ x
+    → let s = rules.tickBy x d (tickOf d reading .device) in
+    liveAt (s .0 .connections) k ≡ not (cond (eqb (getD (s .1 .answer) 0 0) 0) (bitOf (getD (s .1 .answer) 1 0) k) false)
+unfolding rules.tickBy
+tick-tells d reading k h l ticks.ClockBack q = l
+tick-tells d reading k h l ticks.Overrun q = l
+tick-tells d reading k h l (ticks.Closed m) q = closed-tells d reading (stepOf reading (d .reading)) m k q h l
+
+-- the closure of connection c
+close-tells : (d : Device) (c k : ℕ) → liveAt (d .connections) k ≡ true → liveAt (closeOf d c .connections) k ≡ not (eqb k c)
+close-tells d c k l = go (eqb k c) refl
+  where
+    go : (b : Bool) → eqb k c ≡ b → liveAt (closeOf d c .connections) k ≡ not b
+    go true e = rw (eqb-true k c e) (live-gone d c)
+    go false e = live-closed d c k e ∙ l
+
+message-tells : (d : Device) (n : ℕ) (m out : List ℕ) (k : ℕ) → liveAt (d .connections) k ≡ true → (x : Decision)
+    → let s = messageBy x d n m out in
+    liveAt (s .0 .connections) k ≡ not (cond (eqb (getD (s .1 .answer) 0 0) 3) (eqb k n) false)
+unfolding messageBy
+message-tells d n m out k l Undecided = l
+message-tells d n m out k l (Faulty f t) = close-tells d n k l
+message-tells d n m out k l (Sound t) = live-sound d n m k ∙ l
+
+tells : (d : Device) (w : Asked) (k : ℕ) → Fine d → Apt rule open? admit d w → open? d k ≡ true → open? (rule d w .0) k ≡ not (shut w (rule d w .1) k)
+unfolding rule shut openBy closeBy takeBy takenBy notifying reminding sentOut notifiedOf
+tells d (message n m out) k f a l = message-tells d n m out k l (decide m)
+tells d (asked opening) k f a l = go (openOf d .answer)
+  where
+    go : (x : Opening) → liveAt (openBy x d (openOf d .device) .0 .connections) k ≡ true
+    go (opens.Number i) = open-still d k l
+    go opens.Full = l
+tells d (asked (closing n)) k f a l = go (liveAt (d .connections) n)
+  where
+    go : (b : Bool) → let s = closeBy b d n in liveAt (s .0 .connections) k ≡ not (cond (eqb (getD (s .1 .answer) 0 0) 0) (eqb k n) false)
+    go true = close-tells d n k l
+    go false = l
+tells d (asked (ticking reading)) k f a l = tick-tells d reading k (low (f .eight)) l (tickOf d reading .answer) refl
+  where
+    low : length (d .connections) ≡ 8 → k < length (d .connections)
+    low e = live-low (d .connections) k (length (d .connections)) l refl
+tells d (asked (taking out)) k f a l = go (ltb (length out) leastOutput)
+  where
+    way : (b c : Bool)
+        → liveAt (cond {A = Outcome} b (notifying (stateOf d []) out (lowestWaiting (d .subscriptions)))
+        (cond c (reminding (stateOf d []) out (lowestDue (d .connections))) (outcome (0 ∷ 0 ∷ []) (stateOf d []) [] out)) .state .device .connections) k ≡ true
+    way true c = live-alike d (notifiedOf d (lowestWaiting (d .subscriptions))) k (lives-sent (toldAt d (lowestWaiting (d .subscriptions))) (entryAt d (lowestWaiting (d .subscriptions)) .connection) ∙ lives-told d (lowestWaiting (d .subscriptions))) ∙ l
+    way false true = live-alike d (sentAt d (lowestDue (d .connections))) k (lives-sent d (lowestDue (d .connections))) ∙ l
+    way false false = l
+
+    go : (b : Bool) → liveAt (takeBy b d out .0 .connections) k ≡ true
+    go true = l
+    go false = way (ltb (lowestWaiting (d .subscriptions)) entryCount) (ltb (lowestDue (d .connections)) connectionCount)
+
+-- THE DEVICE KEEPS THE LAWS
+pub device-laws : Laws rule open? admit shut Fine
+device-laws = record { keeps = keeps; tells = tells; admits = λ d c x f e. admit-live d c x e }
