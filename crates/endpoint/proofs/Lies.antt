@@ -32,7 +32,7 @@ held-few (b ∷ lives) [] n e h = omega arith
 held-few (b ∷ lives) (k ∷ held) zero e h = count-few b k (and-left (countObeys b k) (heldObeys lives held) e)
 held-few (b ∷ lives) (k ∷ held) (suc n) e h = held-few lives held n (and-right (countObeys b k) (heldObeys lives held) e) (le-of-suc-le-suc h)
 
-part-at : (held area : List ℕ) (n : ℕ) → partsSound held area ≡ true → n < length held
+pub part-at : (held area : List ℕ) (n : ℕ) → partsSound held area ≡ true → n < length held
     → partSound (getD held n 0) (take partBytes (drop (partAt n) area)) ≡ true
 unfolding partsSound
 part-at [] area n e h = absurd (not-suc-le-zero h)

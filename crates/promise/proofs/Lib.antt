@@ -2,3 +2,5 @@ pub mod Lives
 pub mod Bridge
 pub mod Asks
 pub mod Laws
+pub mod Lents
+pub mod Keeps

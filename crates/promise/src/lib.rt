@@ -1,7 +1,21 @@
 // The theorems of the product, as contracts of functions that do nothing: each has its line in the verdict.
 ghost use Rattle.promise.specs.Kept.{CallsKeep};
+ghost use Rattle.promise.specs.Stream.{StreamTheorem, CuttingDoesNotMatter, MixingDoesNotMatter};
 
-// Every call keeps the record rules and the area.
+// Every call keeps the record rules and the area, so refusals 1 and 2 never come in a run.
 pub fn calls_keep()
     ensures { λ _. ⌜ CallsKeep ⌝ }
+{}
+
+// Bytes cut anywhere and mixed come to what document 01's rules give over whole messages.
+pub fn stream_theorem()
+    ensures { λ _. ⌜ StreamTheorem ⌝ }
+{}
+
+pub fn cutting_does_not_matter()
+    ensures { λ _. ⌜ CuttingDoesNotMatter ⌝ }
+{}
+
+pub fn mixing_does_not_matter()
+    ensures { λ _. ⌜ MixingDoesNotMatter ⌝ }
 {}
