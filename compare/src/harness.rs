@@ -1,0 +1,13 @@
+//! The comparison: the same calls to two programs, and every difference told.
+
+pub mod call;
+pub mod codec;
+pub mod counts;
+pub mod damage;
+pub mod desk;
+pub mod gate;
+pub mod planned;
+pub mod random;
+pub mod session;
+pub mod traffic;
+pub mod walk;

@@ -1,0 +1,281 @@
+//! A call with all it is given, and all that comes back.
+
+use crate::answer::{
+    Cleared, Closed, Delivered, Entry, Opened, Part, Reading, Taken, Ticked, Written,
+};
+use crate::engine::Engine;
+use crate::record::Record;
+use std::fmt::Write;
+
+/// One call; buffers are given with the bytes they hold beforehand.
+#[derive(Clone, Debug)]
+pub enum Call {
+    Fresh {
+        reading: u32,
+    },
+    Clear {
+        area: Vec<u8>,
+    },
+    Open {
+        record: Record,
+    },
+    Close {
+        record: Record,
+        area: Vec<u8>,
+        n: u8,
+    },
+    Tick {
+        record: Record,
+        area: Vec<u8>,
+        reading: u32,
+    },
+    Deliver {
+        record: Record,
+        area: Vec<u8>,
+        n: u8,
+        piece: Vec<u8>,
+        output: Vec<u8>,
+    },
+    Take {
+        record: Record,
+        output: Vec<u8>,
+    },
+    ReadMessage {
+        bytes: Vec<u8>,
+    },
+    ReadEntry {
+        bytes: Vec<u8>,
+        index: usize,
+    },
+    EntryPart {
+        bytes: Vec<u8>,
+        index: usize,
+    },
+    Start {
+        buffer: Vec<u8>,
+        kind: u8,
+        entry: Vec<u8>,
+    },
+    Append {
+        buffer: Vec<u8>,
+        kind: u8,
+        entry: Vec<u8>,
+    },
+    KeepAlive {
+        buffer: Vec<u8>,
+        form: u8,
+        value: u32,
+    },
+}
+
+/// The calls' names, in the order of [`Call::place`].
+pub const NAMES: [&str; 13] = [
+    "fresh",
+    "clear",
+    "open",
+    "close",
+    "tick",
+    "deliver",
+    "take",
+    "read_message",
+    "read_entry",
+    "entry_part",
+    "start",
+    "append",
+    "keep_alive",
+];
+
+/// What a call answers.
+#[derive(Clone, Copy, Debug, PartialEq, Eq)]
+pub enum Answer {
+    Fresh(Record),
+    Cleared(Cleared),
+    Opened(Opened),
+    Closed(Closed),
+    Ticked(Ticked),
+    Delivered(Delivered),
+    Taken(Taken),
+    Reading(Reading),
+    Entry(Entry),
+    Part(Part),
+    Written(Written),
+}
+
+/// All that comes back: the answer and the buffers lent.
+#[derive(Clone, Debug, PartialEq, Eq)]
+pub struct Outcome {
+    pub answer: Answer,
+    pub area: Vec<u8>,
+    /// The output, or the writer's buffer.
+    pub output: Vec<u8>,
+}
+
+impl Call {
+    /// The call's place among the names.
+    pub fn place(&self) -> usize {
+        match self {
+            Call::Fresh { .. } => 0,
+            Call::Clear { .. } => 1,
+            Call::Open { .. } => 2,
+            Call::Close { .. } => 3,
+            Call::Tick { .. } => 4,
+            Call::Deliver { .. } => 5,
+            Call::Take { .. } => 6,
+            Call::ReadMessage { .. } => 7,
+            Call::ReadEntry { .. } => 8,
+            Call::EntryPart { .. } => 9,
+            Call::Start { .. } => 10,
+            Call::Append { .. } => 11,
+            Call::KeepAlive { .. } => 12,
+        }
+    }
+
+    /// The record given, if one is.
+    pub fn record(&self) -> Option<&Record> {
+        match self {
+            Call::Open { record }
+            | Call::Close { record, .. }
+            | Call::Tick { record, .. }
+            | Call::Deliver { record, .. }
+            | Call::Take { record, .. } => Some(record),
+            _ => None,
+        }
+    }
+
+    /// The area lent, if one is.
+    pub fn area(&self) -> &[u8] {
+        match self {
+            Call::Clear { area }
+            | Call::Close { area, .. }
+            | Call::Tick { area, .. }
+            | Call::Deliver { area, .. } => area,
+            _ => &[],
+        }
+    }
+
+    /// The output or buffer lent, if one is.
+    pub fn output(&self) -> &[u8] {
+        match self {
+            Call::Deliver { output, .. } | Call::Take { output, .. } => output,
+            Call::Start { buffer, .. }
+            | Call::Append { buffer, .. }
+            | Call::KeepAlive { buffer, .. } => buffer,
+            _ => &[],
+        }
+    }
+
+    /// Makes the call.
+    pub fn perform(&self, engine: &dyn Engine) -> Outcome {
+        let mut area = self.area().to_vec();
+        let mut output = self.output().to_vec();
+        let answer = self.answer(engine, &mut area, &mut output);
+        Outcome {
+            answer,
+            area,
+            output,
+        }
+    }
+
+    fn answer(&self, engine: &dyn Engine, area: &mut [u8], output: &mut [u8]) -> Answer {
+        match self {
+            Call::Fresh { reading } => Answer::Fresh(engine.fresh(*reading)),
+            Call::Clear { .. } => Answer::Cleared(engine.clear(area)),
+            Call::Open { record } => Answer::Opened(engine.open(*record)),
+            Call::Close { record, n, .. } => Answer::Closed(engine.close(*record, area, *n)),
+            Call::Tick {
+                record, reading, ..
+            } => Answer::Ticked(engine.tick(*record, area, *reading)),
+            Call::Deliver {
+                record, n, piece, ..
+            } => Answer::Delivered(engine.deliver(*record, area, *n, piece, output)),
+            Call::Take { record, .. } => Answer::Taken(engine.take(*record, output)),
+            Call::ReadMessage { bytes } => Answer::Reading(engine.read_message(bytes)),
+            Call::ReadEntry { bytes, index } => Answer::Entry(engine.read_entry(bytes, *index)),
+            Call::EntryPart { bytes, index } => Answer::Part(engine.entry_part(bytes, *index)),
+            Call::Start { kind, entry, .. } => Answer::Written(engine.start(output, *kind, entry)),
+            Call::Append { kind, entry, .. } => {
+                Answer::Written(engine.append(output, *kind, entry))
+            }
+            Call::KeepAlive { form, value, .. } => {
+                Answer::Written(engine.keep_alive(output, *form, *value))
+            }
+        }
+    }
+
+    /// The call in words, with its bytes in hexadecimal.
+    pub fn describe(&self) -> String {
+        let mut text = NAMES[self.place()].to_string();
+        let detail = match self {
+            Call::Fresh { reading } => format!(" reading {reading}"),
+            Call::Close { n, .. } => format!(" connection {n}"),
+            Call::Tick { reading, .. } => format!(" reading {reading}"),
+            Call::Deliver { n, piece, .. } => format!(" connection {n}, piece {}", hex(piece)),
+            Call::ReadMessage { bytes } => format!(" {}", hex(bytes)),
+            Call::ReadEntry { bytes, index } | Call::EntryPart { bytes, index } => {
+                format!(" index {index} of {}", hex(bytes))
+            }
+            Call::Start { kind, entry, .. } | Call::Append { kind, entry, .. } => {
+                format!(" type {kind}, entry {}", hex(entry))
+            }
+            Call::KeepAlive { form, value, .. } => format!(" form {form}, value {value}"),
+            Call::Clear { .. } | Call::Open { .. } | Call::Take { .. } => String::new(),
+        };
+        text += &detail;
+        let _ = write!(text, "\n  area of {} bytes", self.area().len());
+        let _ = write!(text, "\n  output of {} bytes", self.output().len());
+        if let Call::Append { buffer, .. } = self {
+            let _ = write!(text, " beginning {}", hex(&buffer[..buffer.len().min(64)]));
+        }
+        if let Some(record) = self.record() {
+            let _ = write!(text, "\n  {record:?}");
+            for (n, held) in record
+                .held
+                .iter()
+                .enumerate()
+                .filter(|(_, held)| **held > 0)
+            {
+                let share = self.area().iter().skip(2_049 * n);
+                let bytes: Vec<u8> = share.take(usize::from(*held)).copied().collect();
+                let _ = write!(text, "\n  undecided at {n}: {}", hex(&bytes));
+            }
+        }
+        text
+    }
+}
+
+impl Answer {
+    /// The refusal's number, or 0.
+    pub fn number(&self) -> u8 {
+        match self {
+            Answer::Fresh(_) | Answer::Part(_) => 0,
+            Answer::Cleared(answer) => answer.number,
+            Answer::Opened(answer) => answer.number,
+            Answer::Closed(answer) => answer.number,
+            Answer::Ticked(answer) => answer.number,
+            Answer::Delivered(answer) => answer.number,
+            Answer::Taken(answer) => answer.number,
+            Answer::Reading(answer) => answer.number,
+            Answer::Entry(answer) => answer.number,
+            Answer::Written(answer) => answer.number,
+        }
+    }
+
+    /// The record handed back, if one is.
+    pub fn record(&self) -> Option<&Record> {
+        match self {
+            Answer::Fresh(record) => Some(record),
+            Answer::Opened(answer) => Some(&answer.record),
+            Answer::Closed(answer) => Some(&answer.record),
+            Answer::Ticked(answer) => Some(&answer.record),
+            Answer::Delivered(answer) => Some(&answer.record),
+            Answer::Taken(answer) => Some(&answer.record),
+            _ => None,
+        }
+    }
+}
+
+/// Bytes in hexadecimal.
+pub fn hex(bytes: &[u8]) -> String {
+    let pairs: Vec<String> = bytes.iter().map(|byte| format!("{byte:02X}")).collect();
+    format!("[{}]", pairs.join(" "))
+}

@@ -1,0 +1,289 @@
+//! What a run exercised.
+
+use super::call::{Answer, Call, NAMES, Outcome};
+use crate::answer::{CLOSED, KEEP_ALIVE, MESSAGE, MORE, NOTIFICATION};
+use crate::record::SHARE;
+use std::fmt::Write;
+
+/// Each thing that can come is to come at least so often.
+pub const FLOOR: u64 = 100;
+
+const STATUSES: [u8; 10] = [0, 3, 4, 5, 6, 7, 8, 9, 10, 11];
+
+/// The refusals that each call can give, by the call's name.
+const POSSIBLE: [(&str, &[u8]); 11] = [
+    ("clear", &[2]),
+    ("open", &[1, 5]),
+    ("close", &[1, 2, 3]),
+    ("tick", &[1, 2, 6]),
+    ("deliver", &[1, 2, 3, 4]),
+    ("take", &[1, 4]),
+    ("read_message", &[8, 9]),
+    ("read_entry", &[8, 9, 12]),
+    ("start", &[4, 10, 11]),
+    ("append", &[4, 8, 10, 11]),
+    ("keep_alive", &[4, 11]),
+];
+
+/// Counts of all that came.
+#[derive(Clone, Debug, Default)]
+pub struct Counts {
+    calls: [u64; NAMES.len()],
+    /// By call, then by the refusal's number; place 0 counts the calls done.
+    refusals: [[u64; 13]; NAMES.len()],
+    delivery_faults: [u64; 7],
+    reader_faults: [u64; 7],
+    append_faults: [u64; 7],
+    statuses: [u64; 16],
+    delivered_types: [u64; 5],
+    read_types: [u64; 5],
+    more: u64,
+    replies: u64,
+    closed_by_fault: u64,
+    closed_by_host: u64,
+    closed_by_tick: u64,
+    notifications: u64,
+    keep_alives: u64,
+    nothing: u64,
+    parts: u64,
+    empty_parts: u64,
+    /// Ticks given a record and a step whose sum does not fit 64 bits.
+    overruns_tried: u64,
+}
+
+impl Counts {
+    /// Counts one call and its outcome.
+    pub fn count(&mut self, call: &Call, outcome: &Outcome) {
+        let place = call.place();
+        let number = usize::from(outcome.answer.number());
+        self.calls[place] += 1;
+        self.refusals[place][number.min(12)] += 1;
+        self.count_overrun(call);
+        match (call, &outcome.answer) {
+            (Call::Close { .. }, Answer::Closed(answer)) if answer.number == 0 => {
+                self.closed_by_host += 1;
+            }
+            (_, Answer::Ticked(answer)) => {
+                self.closed_by_tick += u64::from(answer.closed.count_ones());
+            }
+            (_, Answer::Delivered(_)) if number == 0 => self.count_delivery(call, outcome),
+            (_, Answer::Taken(answer)) if number == 0 => match answer.kind {
+                NOTIFICATION => self.notifications += 1,
+                KEEP_ALIVE => self.keep_alives += 1,
+                _ => self.nothing += 1,
+            },
+            (_, Answer::Reading(answer)) => {
+                self.reader_faults[usize::from(answer.fault.min(6))] += 1;
+                if number == 0 {
+                    self.read_types[usize::from(answer.kind.min(4))] += 1;
+                }
+            }
+            (Call::Append { .. }, Answer::Written(answer)) => {
+                self.append_faults[usize::from(answer.fault.min(6))] += 1;
+            }
+            (_, Answer::Part(answer)) if answer.length > 0 => self.parts += 1,
+            (_, Answer::Part(_)) => self.empty_parts += 1,
+            _ => {}
+        }
+    }
+
+    fn count_overrun(&mut self, call: &Call) {
+        let Call::Tick {
+            record, reading, ..
+        } = call
+        else {
+            return;
+        };
+        let step = u64::from(reading.wrapping_sub(record.device.reading));
+        let overruns = record.device.connections.iter().any(|connection| {
+            connection.silence.checked_add(step).is_none()
+                || connection.quiet.checked_add(step).is_none()
+        });
+        self.overruns_tried += u64::from(overruns);
+    }
+
+    fn count_delivery(&mut self, call: &Call, outcome: &Outcome) {
+        let Answer::Delivered(answer) = outcome.answer else {
+            return;
+        };
+        match answer.kind {
+            MORE => self.more += 1,
+            CLOSED => {
+                self.closed_by_fault += 1;
+                self.delivery_faults[usize::from(answer.fault.min(6))] += 1;
+            }
+            MESSAGE => {
+                let kind = delivered_type(call);
+                self.delivered_types[usize::from(kind.min(4))] += 1;
+                if answer.length > 0 {
+                    self.replies += 1;
+                }
+                if kind == 1 {
+                    self.count_statuses(&outcome.output[..answer.length]);
+                }
+            }
+            _ => {}
+        }
+    }
+
+    fn count_statuses(&mut self, reply: &[u8]) {
+        let mut rest = reply.get(10..).unwrap_or_default();
+        while rest.len() >= 10 {
+            let size = u32::from_be_bytes([rest[0], rest[1], rest[2], rest[3]]) as usize;
+            self.statuses[usize::from(rest[8].min(15))] += 1;
+            rest = rest.get(size.max(10)..).unwrap_or_default();
+        }
+    }
+
+    /// Adds what another run counted.
+    pub fn add(&mut self, other: &Counts) {
+        add_all(&mut self.calls, &other.calls);
+        for (mine, theirs) in self.refusals.iter_mut().zip(&other.refusals) {
+            add_all(mine, theirs);
+        }
+        add_all(&mut self.delivery_faults, &other.delivery_faults);
+        add_all(&mut self.reader_faults, &other.reader_faults);
+        add_all(&mut self.append_faults, &other.append_faults);
+        add_all(&mut self.statuses, &other.statuses);
+        add_all(&mut self.delivered_types, &other.delivered_types);
+        add_all(&mut self.read_types, &other.read_types);
+        self.more += other.more;
+        self.replies += other.replies;
+        self.closed_by_fault += other.closed_by_fault;
+        self.closed_by_host += other.closed_by_host;
+        self.closed_by_tick += other.closed_by_tick;
+        self.notifications += other.notifications;
+        self.keep_alives += other.keep_alives;
+        self.nothing += other.nothing;
+        self.parts += other.parts;
+        self.empty_parts += other.empty_parts;
+        self.overruns_tried += other.overruns_tried;
+    }
+
+    /// All calls made.
+    pub fn total(&self) -> u64 {
+        self.calls.iter().sum()
+    }
+
+    /// How often refusal 7 was given, which no record lets happen.
+    pub fn overruns_given(&self) -> u64 {
+        self.refusals.iter().map(|numbers| numbers[7]).sum()
+    }
+
+    /// Everything that has to come, with how often it came.
+    pub fn lines(&self) -> Vec<(String, u64)> {
+        let mut lines = Vec::new();
+        for (place, name) in NAMES.iter().enumerate() {
+            lines.push((format!("{name}: calls"), self.calls[place]));
+            lines.push((format!("{name}: done"), self.refusals[place][0]));
+        }
+        for (name, numbers) in POSSIBLE {
+            for number in numbers {
+                let label = format!("{name}: refusal {number}");
+                lines.push((label, self.refused(name, *number)));
+            }
+        }
+        for fault in 1..=6 {
+            lines.push((
+                format!("delivery: closed by fault {fault}"),
+                self.delivery_faults[fault],
+            ));
+            lines.push((format!("reader: fault {fault}"), self.reader_faults[fault]));
+            lines.push((format!("append: fault {fault}"), self.append_faults[fault]));
+        }
+        for status in STATUSES {
+            let count = self.statuses[usize::from(status)];
+            lines.push((format!("status {status}"), count));
+        }
+        for kind in 0..5 {
+            lines.push((
+                format!("type {kind} delivered, sound"),
+                self.delivered_types[kind],
+            ));
+            lines.push((format!("type {kind} read"), self.read_types[kind]));
+        }
+        lines.push(("delivery: more needed".to_string(), self.more));
+        lines.push(("delivery: replies".to_string(), self.replies));
+        lines.push(("closures by fault".to_string(), self.closed_by_fault));
+        lines.push(("closures by the host".to_string(), self.closed_by_host));
+        lines.push(("closures by tick".to_string(), self.closed_by_tick));
+        lines.push(("taken: notifications".to_string(), self.notifications));
+        lines.push(("taken: keep-alives".to_string(), self.keep_alives));
+        lines.push(("taken: nothing".to_string(), self.nothing));
+        lines.push(("parts with bytes".to_string(), self.parts));
+        lines.push(("parts without bytes".to_string(), self.empty_parts));
+        let label = "ticks whose sum does not fit 64 bits".to_string();
+        lines.push((label, self.overruns_tried));
+        lines
+    }
+
+    fn refused(&self, name: &str, number: u8) -> u64 {
+        let place = NAMES.iter().position(|other| *other == name);
+        place.map_or(0, |place| self.refusals[place][usize::from(number)])
+    }
+
+    /// What came too seldom, and refusals that came where none can.
+    pub fn failures(&self) -> Vec<String> {
+        let mut failures: Vec<String> = self
+            .lines()
+            .into_iter()
+            .filter(|(_, count)| *count < FLOOR)
+            .map(|(label, count)| format!("{label}: only {count}"))
+            .collect();
+        for (place, name) in NAMES.iter().enumerate() {
+            for number in 1..=12_u8 {
+                let count = self.refusals[place][usize::from(number)];
+                if count > 0 && !is_possible(name, number) {
+                    failures.push(format!("{name}: refusal {number} came {count} times"));
+                }
+            }
+        }
+        failures
+    }
+
+    /// The table of counts.
+    pub fn table(&self) -> String {
+        let mut text = String::new();
+        for (label, count) in self.lines() {
+            let _ = writeln!(text, "{count:>8}  {label}");
+        }
+        let _ = writeln!(
+            text,
+            "{:>8}  refusal 7: cannot come, as sums that do not fit 64 bits need a record \
+             that breaks a rule, and that is refused by 1",
+            self.overruns_given()
+        );
+        let _ = writeln!(text, "{:>8}  calls in all", self.total());
+        text
+    }
+}
+
+fn is_possible(name: &str, number: u8) -> bool {
+    POSSIBLE
+        .iter()
+        .any(|(other, numbers)| *other == name && numbers.contains(&number))
+}
+
+/// The type of the message a delivery completed.
+fn delivered_type(call: &Call) -> u8 {
+    let Call::Deliver {
+        record,
+        area,
+        n,
+        piece,
+        ..
+    } = call
+    else {
+        return 0;
+    };
+    let n = usize::from(*n);
+    let held = usize::from(record.held[n]);
+    let front = area[n * SHARE..n * SHARE + held].iter().chain(piece);
+    front.copied().nth(7).unwrap_or_default()
+}
+
+fn add_all(mine: &mut [u64], theirs: &[u64]) {
+    for (mine, theirs) in mine.iter_mut().zip(theirs) {
+        *mine += theirs;
+    }
+}

@@ -1,0 +1,188 @@
+//! The host's side of a comparison: it keeps the record and the area between
+//! calls and offers bytes again as a host does.
+
+use super::call::{Answer, Call, Outcome};
+use super::random::Random;
+use super::session::{Checked, Session};
+use super::traffic;
+use crate::answer::Delivered;
+use crate::record::{AREA, Record};
+
+/// The least output of delivery and take.
+pub const ROOM: usize = 4_096;
+
+/// A host with one device, at two programs at once.
+#[derive(Debug)]
+pub struct Desk<'s, 'e> {
+    pub session: &'s mut Session<'e>,
+    pub random: Random,
+    pub record: Record,
+    pub area: Vec<u8>,
+}
+
+impl<'s, 'e> Desk<'s, 'e> {
+    /// A fresh device and a cleared area.
+    pub fn new(
+        session: &'s mut Session<'e>,
+        random: Random,
+        reading: u32,
+    ) -> Checked<Desk<'s, 'e>> {
+        let mut desk = Desk {
+            session,
+            random,
+            record: Record::default(),
+            area: vec![0; AREA],
+        };
+        desk.restart(reading)?;
+        Ok(desk)
+    }
+
+    /// Begins again with a fresh device and a cleared area.
+    pub fn restart(&mut self, reading: u32) -> Checked<()> {
+        let outcome = self.session.check(Call::Fresh { reading })?;
+        if let Some(record) = outcome.answer.record() {
+            self.record = *record;
+        }
+        let area = self.random.bytes(AREA);
+        self.area = self.session.check(Call::Clear { area })?.area;
+        Ok(())
+    }
+
+    /// Makes a call and goes on from its outcome, if it was done.
+    pub fn advance(&mut self, call: Call) -> Checked<Outcome> {
+        let outcome = self.session.check(call)?;
+        if outcome.answer.number() != 0 {
+            return Ok(outcome);
+        }
+        if let Some(record) = outcome.answer.record() {
+            self.record = *record;
+        }
+        if !outcome.area.is_empty() {
+            self.area.clone_from(&outcome.area);
+        }
+        Ok(outcome)
+    }
+
+    pub fn open(&mut self) -> Checked<Outcome> {
+        let record = self.record;
+        self.advance(Call::Open { record })
+    }
+
+    pub fn close(&mut self, n: u8) -> Checked<Outcome> {
+        let call = self.closing(n);
+        self.advance(call)
+    }
+
+    /// Brings so much time.
+    pub fn tick(&mut self, step: u32) -> Checked<Outcome> {
+        let call = self.ticking(step);
+        self.advance(call)
+    }
+
+    pub fn take(&mut self) -> Checked<Outcome> {
+        let call = self.taking();
+        self.advance(call)
+    }
+
+    /// Offers one piece.
+    pub fn piece(&mut self, n: u8, piece: &[u8]) -> Checked<Option<Delivered>> {
+        let call = self.delivering(n, piece);
+        let outcome = self.advance(call)?;
+        match outcome.answer {
+            Answer::Delivered(answer) if answer.number == 0 => Ok(Some(answer)),
+            _ => Ok(None),
+        }
+    }
+
+    /// Offers all bytes, and the rest again after each message.
+    pub fn deliver(&mut self, n: u8, bytes: &[u8]) -> Checked<()> {
+        let mut rest = bytes;
+        while !rest.is_empty() {
+            match self.piece(n, rest)? {
+                Some(answer) if answer.taken > 0 => {
+                    rest = rest.get(answer.taken..).unwrap_or_default();
+                }
+                _ => return Ok(()),
+            }
+        }
+        Ok(())
+    }
+
+    pub fn closing(&self, n: u8) -> Call {
+        Call::Close {
+            record: self.record,
+            area: self.area.clone(),
+            n,
+        }
+    }
+
+    pub fn ticking(&self, step: u32) -> Call {
+        Call::Tick {
+            record: self.record,
+            area: self.area.clone(),
+            reading: self.record.device.reading.wrapping_add(step),
+        }
+    }
+
+    /// The output is filled at random, so that a stray write shows.
+    pub fn delivering(&mut self, n: u8, piece: &[u8]) -> Call {
+        Call::Deliver {
+            record: self.record,
+            area: self.area.clone(),
+            n,
+            piece: piece.to_vec(),
+            output: self.random.bytes(ROOM),
+        }
+    }
+
+    pub fn taking(&mut self) -> Call {
+        Call::Take {
+            record: self.record,
+            output: self.random.bytes(ROOM),
+        }
+    }
+
+    pub fn is_open(&self, n: u8) -> bool {
+        let connections = &self.record.device.connections;
+        connections.get(usize::from(n)).is_some_and(|c| c.live)
+    }
+
+    /// Eight connections with every form and many heartbeats, locks, a full
+    /// table, marks waiting, keep-alives due and undecided bytes.
+    pub fn make_busy(&mut self) -> Checked<()> {
+        for _ in 0..8 {
+            self.open()?;
+        }
+        let beats = [(1, 2), (2, 2_000), (1, 65_535), (2, u32::MAX), (2, 1_500)];
+        for (n, (form, value)) in beats.into_iter().enumerate() {
+            self.deliver(n as u8, &traffic::keep_alive(form, value))?;
+        }
+        self.tick(1_700)?;
+        for n in 0..8 {
+            self.subscribe(n, 4)?;
+            let lock = traffic::command(7, 4_097 + u32::from(n), (1, 3), 0, &[]);
+            if n != 3 {
+                self.deliver(n, &traffic::message(0, &[lock]))?;
+            }
+        }
+        let set = traffic::command(8, 4_100, (4, 2), 1, &[1]);
+        self.deliver(2, &traffic::message(0, &[set]))?;
+        self.tick(400)?;
+        let sample = traffic::message(1, &[traffic::command(9, 4, (3, 1), 5, &[0; 23])]);
+        for (n, length) in [(0, 1), (1, 9), (2, 10), (5, 30), (7, sample.len() - 1)] {
+            self.piece(n, &sample[..length])?;
+        }
+        Ok(())
+    }
+
+    /// Adds so many subscriptions.
+    pub fn subscribe(&mut self, n: u8, count: u32) -> Checked<()> {
+        for k in 0..count {
+            let name = traffic::naming(4_097 + k, 0x0001_0001, 9, 0x0003_0001);
+            let add = traffic::adding(&name, k, 1, [0, 0]);
+            let entry = traffic::command(k, 4, (3, 1), 5, &add);
+            self.deliver(n, &traffic::message(0, &[entry]))?;
+        }
+        Ok(())
+    }
+}

@@ -1,0 +1,46 @@
+//! Calls that are gone through one by one instead of being left to chance.
+
+mod messages;
+mod states;
+mod time;
+mod writing;
+
+use super::desk::Desk;
+use super::random::Random;
+use super::session::{Checked, Session};
+
+/// Half of the counter's round: a step this long is the clock going back.
+const HALF: u32 = 1 << 31;
+
+type Plan = fn(&mut Desk<'_, '_>) -> Checked<()>;
+
+const PLANS: [Plan; 17] = [
+    states::freshness,
+    states::overruns,
+    states::full_table,
+    states::wild_records,
+    messages::damaged_samples,
+    messages::cut_samples,
+    states::damaged_records,
+    states::twins,
+    states::damaged_areas,
+    states::lengths,
+    states::numbers,
+    messages::sizes,
+    messages::byte_by_byte,
+    time::supervision,
+    time::long_silence,
+    messages::every_method,
+    writing::writer,
+];
+
+/// Goes through all plans.
+pub fn all(session: &mut Session<'_>, seed: u64) -> Checked<()> {
+    for (place, plan) in PLANS.into_iter().enumerate() {
+        let random = Random::new(seed ^ ((place as u64 + 1) << 32));
+        // The counter goes round while a plan runs.
+        let mut desk = Desk::new(session, random, 4_294_967_000)?;
+        plan(&mut desk)?;
+    }
+    Ok(())
+}

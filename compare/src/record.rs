@@ -1,0 +1,69 @@
+//! The endpoint's record, laid out as it crosses the C boundary.
+
+/// How many connections there are.
+pub const CONNECTIONS: usize = 8;
+/// How many subscription entries there are.
+pub const SUBSCRIPTIONS: usize = 32;
+/// How many mutes there are.
+pub const MUTES: usize = 8;
+/// How many bytes of the area belong to one connection.
+pub const SHARE: usize = 2_049;
+/// How many bytes the lent area has.
+pub const AREA: usize = CONNECTIONS * SHARE;
+
+/// What is kept of one connection, its undecided bytes excepted.
+#[repr(C)]
+#[derive(Clone, Copy, Debug, Default, PartialEq, Eq)]
+pub struct Connection {
+    /// Whether the connection is open.
+    pub live: bool,
+    /// 0 none, 1 seconds, 2 milliseconds.
+    pub form: u8,
+    /// The heartbeat H in milliseconds.
+    pub beat: u64,
+    /// Milliseconds since a sound message was heard.
+    pub silence: u64,
+    /// Milliseconds since the device spoke.
+    pub quiet: u64,
+    /// Whether a keep-alive is to be taken.
+    pub due: bool,
+}
+
+/// One subscription entry.
+#[repr(C)]
+#[derive(Clone, Copy, Debug, Default, PartialEq, Eq)]
+pub struct Subscription {
+    pub used: bool,
+    pub waiting: bool,
+    pub connection: u8,
+    pub emitter: u32,
+    /// Level times 65,536 plus index.
+    pub event: u32,
+    /// The subscriber's object.
+    pub object: u32,
+    /// The subscriber's method: level times 65,536 plus index.
+    pub method: u32,
+    pub context: u32,
+}
+
+/// What the rules speak of when messages come whole.
+#[repr(C)]
+#[derive(Clone, Copy, Debug, Default, PartialEq, Eq)]
+pub struct Device {
+    /// The counter's last reading.
+    pub reading: u32,
+    pub connections: [Connection; CONNECTIONS],
+    pub subscriptions: [Subscription; SUBSCRIPTIONS],
+    /// 1 muted, 2 unmuted.
+    pub mutes: [u8; MUTES],
+    /// 0 free, else the holding connection plus 1.
+    pub holders: [u8; MUTES],
+}
+
+/// The endpoint's record: the device, and each connection's count of undecided bytes.
+#[repr(C)]
+#[derive(Clone, Copy, Debug, Default, PartialEq, Eq)]
+pub struct Record {
+    pub device: Device,
+    pub held: [u16; CONNECTIONS],
+}

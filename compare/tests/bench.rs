@@ -1,0 +1,549 @@
+//! The scope paper's bench examples and rules, run on the second program.
+
+use compare::answer::{CLOSED, KEEP_ALIVE, MESSAGE, MORE, NOTIFICATION};
+use compare::engine::Engine;
+use compare::record::{AREA, Record};
+use compare::second::device::class_bytes;
+use compare::second::listing::list;
+use compare::second::wire;
+use compare::second::{Second, rules};
+
+const TWO_SECONDS: &str = "3B 00 01 00 00 00 0B 04 00 01 00 02";
+const TWO_THOUSAND: &str = "3B 00 01 00 00 00 0D 04 00 01 00 00 07 D0";
+const LOCK: &str = "3B 00 01 00 00 00 1A 01 00 01 00 00 00 11 00 00 00 07 \
+                    00 00 10 01 00 01 00 03 00";
+const LOCKED: &str = "3B 00 01 00 00 00 13 03 00 01 00 00 00 0A 00 00 00 07 00 00";
+const REFUSED: &str = "3B 00 01 00 00 00 13 03 00 01 00 00 00 0A 00 00 00 07 03 00";
+const MUTED: &str = "3B 00 01 00 00 00 28 02 00 01 00 00 00 1F 00 00 00 09 00 03 00 01 02 \
+                     01 02 03 04 00 00 10 01 00 01 00 01 00 04 00 01 01 01";
+
+fn hex(text: &str) -> Vec<u8> {
+    text.split_whitespace()
+        .map(|pair| u8::from_str_radix(pair, 16).expect("a pair of hexadecimal digits"))
+        .collect()
+}
+
+/// A command entry.
+fn command(handle: u32, target: u32, method: (u16, u16), count: u8, rest: &[u8]) -> Vec<u8> {
+    let mut bytes = (17 + rest.len() as u32).to_be_bytes().to_vec();
+    bytes.extend(handle.to_be_bytes());
+    bytes.extend(target.to_be_bytes());
+    bytes.extend(method.0.to_be_bytes());
+    bytes.extend(method.1.to_be_bytes());
+    bytes.push(count);
+    bytes.extend(rest);
+    bytes
+}
+
+/// The parameters of an add of event 1.1, mode 1.
+fn adding(emitter: u32, object: u32, context: u32) -> Vec<u8> {
+    let mut bytes = naming(emitter, object);
+    bytes.extend(context.to_be_bytes());
+    bytes.extend([1, 0, 0]);
+    bytes
+}
+
+/// The parameters of a remove of event 1.1 with subscriber method 3.1.
+fn naming(emitter: u32, object: u32) -> Vec<u8> {
+    let mut bytes = emitter.to_be_bytes().to_vec();
+    bytes.extend([0, 1, 0, 1]);
+    bytes.extend(object.to_be_bytes());
+    bytes.extend([0, 3, 0, 1]);
+    bytes
+}
+
+/// A host with one device.
+struct Bench {
+    record: Record,
+    area: Vec<u8>,
+    output: Vec<u8>,
+}
+
+impl Bench {
+    /// A fresh device with this many connections open.
+    fn open(count: usize) -> Bench {
+        let mut bench = Bench {
+            record: Second.fresh(0),
+            area: vec![0; AREA],
+            output: vec![0xEE; 4_096],
+        };
+        for n in 0..count {
+            let answer = Second.open(bench.record);
+            assert_eq!((answer.number, usize::from(answer.connection)), (0, n));
+            bench.record = answer.record;
+        }
+        bench
+    }
+
+    fn deliver(&mut self, n: u8, piece: &[u8]) -> (u8, u8, usize, Vec<u8>) {
+        let answer = Second.deliver(self.record, &mut self.area, n, piece, &mut self.output);
+        assert_eq!(answer.number, 0);
+        self.keep(answer.record);
+        let reply = self.output[..answer.length].to_vec();
+        (answer.kind, answer.fault, answer.taken, reply)
+    }
+
+    /// Delivers a whole message and hands back the reply.
+    fn send(&mut self, n: u8, message: &[u8]) -> Vec<u8> {
+        let (kind, fault, taken, reply) = self.deliver(n, message);
+        assert_eq!((kind, fault, taken), (MESSAGE, 0, message.len()));
+        reply
+    }
+
+    /// Runs one command and hands back the response's status, count and parameters.
+    fn ask(&mut self, n: u8, entry: Vec<u8>) -> (u8, u8, Vec<u8>) {
+        let reply = self.send(n, &wire::message(1, &[entry]));
+        (reply[18], reply[19], reply[20..].to_vec())
+    }
+
+    fn status(&mut self, n: u8, target: u32, method: (u16, u16), count: u8, rest: &[u8]) -> u8 {
+        let (status, given, parameters) = self.ask(n, command(7, target, method, count, rest));
+        assert!(status == 0 || (given == 0 && parameters.is_empty()));
+        status
+    }
+
+    fn tick(&mut self, reading: u32) -> u8 {
+        let answer = Second.tick(self.record, &mut self.area, reading);
+        assert_eq!(answer.number, 0);
+        self.keep(answer.record);
+        answer.closed
+    }
+
+    fn take(&mut self) -> (u8, u8, Vec<u8>) {
+        let answer = Second.take(self.record, &mut self.output);
+        assert_eq!(answer.number, 0);
+        self.keep(answer.record);
+        let message = self.output[..answer.length].to_vec();
+        (answer.kind, answer.connection, message)
+    }
+
+    /// After every call the record rules hold and the area is good.
+    fn keep(&mut self, record: Record) {
+        assert!(rules::hold(&record));
+        assert!(rules::area_is_good(&record, &self.area));
+        self.record = record;
+    }
+}
+
+#[test]
+fn keep_alives_are_read_answered_and_written() {
+    for (text, form, value, beat) in [(TWO_SECONDS, 1, 2, 2_000), (TWO_THOUSAND, 2, 2_000, 2_000)] {
+        let bytes = hex(text);
+        let reading = Second.read_message(&bytes);
+        assert_eq!((reading.number, reading.kind, reading.count), (0, 4, 1));
+        assert_eq!((reading.form, reading.value), (form, value));
+        assert_eq!(reading.length, bytes.len());
+        let mut bench = Bench::open(1);
+        assert_eq!(bench.send(0, &bytes), bytes);
+        let connection = bench.record.device.connections[0];
+        assert_eq!((connection.form, connection.beat), (form, beat));
+        let mut buffer = vec![9; 2_049];
+        let written = Second.keep_alive(&mut buffer, form, value);
+        assert_eq!((written.number, written.length), (0, bytes.len()));
+        assert_eq!(buffer[..bytes.len()], bytes);
+        assert!(buffer[bytes.len()..].iter().all(|byte| *byte == 9));
+    }
+}
+
+#[test]
+fn a_lock_is_answered_and_refused_to_another() {
+    let mut bench = Bench::open(2);
+    assert_eq!(bench.send(0, &hex(LOCK)), hex(LOCKED));
+    assert_eq!(bench.send(1, &hex(LOCK)), hex(REFUSED));
+    assert_eq!(bench.send(0, &hex(LOCK)), hex(LOCKED));
+    assert_eq!(bench.record.device.holders[0], 1);
+    assert_eq!(bench.status(1, 4_097, (4, 2), 1, &[9]), 3);
+    assert_eq!(bench.status(1, 4_097, (1, 4), 0, &[]), 3);
+    assert_eq!(bench.status(0, 4_097, (1, 4), 0, &[]), 0);
+    assert_eq!(bench.status(0, 4_097, (1, 4), 0, &[]), 9);
+    assert_eq!(bench.send(1, &hex(LOCK)), hex(LOCKED));
+}
+
+#[test]
+fn the_reply_leaves_the_rest_of_the_output() {
+    let mut bench = Bench::open(1);
+    bench.send(0, &hex(LOCK));
+    assert!(bench.output[20..].iter().all(|byte| *byte == 0xEE));
+}
+
+#[test]
+fn a_mute_notifies_its_subscriber() {
+    let mut bench = Bench::open(1);
+    let add = adding(4_097, 9, 0x0102_0304);
+    assert_eq!(bench.status(0, 4, (3, 1), 5, &add), 0);
+    assert_eq!(bench.take(), (0, 0, vec![]));
+    assert_eq!(bench.status(0, 4_097, (4, 2), 1, &[1]), 0);
+    assert_eq!(bench.take(), (NOTIFICATION, 0, hex(MUTED)));
+    assert_eq!(bench.take(), (0, 0, vec![]));
+}
+
+#[test]
+fn a_class_is_laid_out_as_the_source_document_says() {
+    assert_eq!(class_bytes(&[1, 3], 1), hex("00 02 00 01 00 03 00 01"));
+    let mut bench = Bench::open(1);
+    for (target, class) in [
+        (1, "00 03 00 01 00 03 00 01 00 01"),
+        (4, "00 03 00 01 00 03 00 04 00 01"),
+        (4_104, "00 04 00 01 00 01 00 01 00 02 00 01"),
+    ] {
+        let answer = bench.ask(0, command(1, target, (1, 1), 0, &[]));
+        assert_eq!(answer, (0, 1, hex(class)));
+        let lockable = u8::from(target == 4_104);
+        let answer = bench.ask(0, command(1, target, (1, 2), 0, &[]));
+        assert_eq!(answer, (0, 1, vec![lockable]));
+    }
+}
+
+#[test]
+fn the_counter_goes_round_and_does_not_go_back() {
+    let mut area = vec![0; AREA];
+    let step = |first: u32, then: u32, area: &mut Vec<u8>| {
+        Second.tick(Second.fresh(first), area, then).number
+    };
+    assert_eq!(step(4_294_967_000, 200, &mut area), 0);
+    assert_eq!(step(5, 5 + ((1 << 31) - 1), &mut area), 0);
+    assert_eq!(step(5, 5 + (1 << 31), &mut area), 6);
+    assert_eq!(step(5, 4, &mut area), 6);
+
+    let mut bench = Bench::open(1);
+    bench.record.device.reading = 4_294_967_000;
+    bench.send(0, &hex(TWO_SECONDS));
+    bench.tick(200);
+    assert_eq!(bench.record.device.connections[0].silence, 496);
+}
+
+#[test]
+fn two_seconds_close_at_six() {
+    let mut bench = Bench::open(1);
+    bench.send(0, &hex(TWO_SECONDS));
+    assert_eq!(bench.tick(5_999), 0);
+    assert_eq!(bench.record.device.connections[0].silence, 5_999);
+    assert!(bench.record.device.connections[0].live);
+    assert_eq!(bench.tick(6_000), 1);
+    assert!(!bench.record.device.connections[0].live);
+}
+
+#[test]
+fn the_technicians_lock_is_free_after_ninety_seconds() {
+    let mut bench = Bench::open(2);
+    bench.send(0, &wire::keep_alive(wire::Heartbeat::Seconds(30)));
+    assert_eq!(bench.status(0, 4_100, (1, 3), 0, &[]), 0);
+    assert_eq!(bench.tick(89_999), 0);
+    assert_eq!(bench.status(1, 4_100, (1, 3), 0, &[]), 3);
+    assert_eq!(bench.tick(90_000), 1);
+    assert_eq!(bench.status(1, 4_100, (1, 3), 0, &[]), 0);
+    assert_eq!(bench.record.device.holders[3], 2);
+}
+
+#[test]
+fn silence_is_counted_beyond_32_bits() {
+    let mut bench = Bench::open(1);
+    bench.send(
+        0,
+        &wire::keep_alive(wire::Heartbeat::Milliseconds(u32::MAX)),
+    );
+    let mut reading = 0_u32;
+    for _ in 0..6 {
+        reading = reading.wrapping_add((1 << 31) - 1);
+        assert_eq!(bench.tick(reading), 0);
+    }
+    assert_eq!(
+        bench.record.device.connections[0].silence,
+        6 * ((1 << 31) - 1)
+    );
+    // 3 x 4,294,967,295 less 6 x 2,147,483,647 leaves 3.
+    assert_eq!(bench.tick(reading.wrapping_add(2)), 0);
+    assert_eq!(bench.tick(reading.wrapping_add(3)), 1);
+}
+
+#[test]
+fn quiet_brings_one_keep_alive_in_its_form() {
+    for text in [TWO_SECONDS, TWO_THOUSAND] {
+        let mut bench = Bench::open(2);
+        bench.send(1, &hex(text));
+        bench.tick(1_999);
+        assert_eq!(bench.take(), (0, 0, vec![]));
+        bench.tick(2_000);
+        bench.tick(2_500);
+        assert_eq!(bench.record.device.connections[1].quiet, 0);
+        assert_eq!(bench.take(), (KEEP_ALIVE, 1, hex(text)));
+        assert_eq!(bench.take(), (0, 0, vec![]));
+    }
+}
+
+#[test]
+fn only_what_the_device_sends_clears_quiet() {
+    let mut bench = Bench::open(1);
+    bench.send(0, &hex(TWO_SECONDS));
+    bench.tick(1_000);
+    let response = wire::message(3, &[hex("00 00 00 0A 00 00 00 01 00 00")]);
+    assert_eq!(bench.send(0, &hex(MUTED)), []);
+    assert_eq!(bench.send(0, &response), []);
+    let unasked = wire::message(0, &[command(1, 4_097, (4, 2), 1, &[1])]);
+    assert_eq!(bench.send(0, &unasked), []);
+    let connection = bench.record.device.connections[0];
+    assert_eq!((connection.silence, connection.quiet), (0, 1_000));
+    bench.send(0, &hex(LOCK));
+    assert_eq!(bench.record.device.connections[0].quiet, 0);
+}
+
+#[test]
+fn undecided_bytes_are_not_heard() {
+    let mut bench = Bench::open(1);
+    bench.send(0, &hex(TWO_SECONDS));
+    bench.tick(1_000);
+    let before = bench.record.device;
+    let lock = hex(LOCK);
+    assert_eq!(bench.deliver(0, &lock[..26]), (MORE, 0, 26, vec![]));
+    assert_eq!(bench.record.device, before);
+    assert_eq!(bench.area[..26], lock[..26]);
+    assert_eq!(bench.record.held[0], 26);
+    assert_eq!(bench.deliver(0, &lock[26..]), (MESSAGE, 0, 1, hex(LOCKED)));
+    assert!(bench.area.iter().all(|byte| *byte == 0));
+}
+
+#[test]
+fn a_zero_heartbeat_stops_supervision() {
+    let mut bench = Bench::open(1);
+    bench.send(0, &hex(TWO_SECONDS));
+    bench.tick(3_000);
+    for zero in [
+        wire::keep_alive(wire::Heartbeat::Seconds(0)),
+        wire::keep_alive(wire::Heartbeat::Milliseconds(0)),
+    ] {
+        assert_eq!(bench.send(0, &zero), zero);
+        let connection = bench.record.device.connections[0];
+        assert_eq!((connection.form, connection.beat), (0, 0));
+        assert_eq!((connection.silence, connection.quiet), (0, 0));
+        assert!(connection.live && !connection.due);
+    }
+    assert_eq!(bench.tick(1 << 30), 0);
+    assert_eq!(bench.take(), (0, 0, vec![]));
+}
+
+#[test]
+fn notifications_come_by_entry_and_before_keep_alives() {
+    let mut bench = Bench::open(3);
+    bench.send(0, &hex(TWO_SECONDS));
+    for (n, emitter, object) in [(2, 4_098, 5), (1, 4_097, 6), (0, 4_098, 7)] {
+        let add = adding(emitter, object, object);
+        assert_eq!(bench.status(n, 4, (3, 1), 5, &add), 0);
+    }
+    bench.tick(2_000);
+    assert_eq!(bench.status(1, 4_098, (4, 2), 1, &[1]), 0);
+    assert_eq!(bench.status(1, 4_098, (4, 2), 1, &[2]), 0);
+    assert_eq!(bench.status(1, 4_097, (4, 2), 1, &[1]), 0);
+    let mut seen = Vec::new();
+    loop {
+        let (kind, connection, message) = bench.take();
+        if kind == 0 {
+            break;
+        }
+        seen.push((kind, connection, message.get(39).copied()));
+    }
+    // The last entry's notification speaks on connection 0 and clears its due.
+    let expected = [
+        (NOTIFICATION, 2, Some(2)),
+        (NOTIFICATION, 1, Some(1)),
+        (NOTIFICATION, 0, Some(2)),
+    ];
+    assert_eq!(seen, expected);
+}
+
+#[test]
+fn a_set_to_the_present_value_marks_nothing() {
+    let mut bench = Bench::open(1);
+    let add = adding(4_097, 9, 0);
+    assert_eq!(bench.status(0, 4, (3, 1), 5, &add), 0);
+    assert_eq!(bench.status(0, 4_097, (4, 2), 1, &[2]), 0);
+    assert_eq!(bench.take().0, 0);
+}
+
+#[test]
+fn a_twin_is_refused_whatever_its_context() {
+    let mut bench = Bench::open(2);
+    assert_eq!(bench.status(0, 4, (3, 1), 5, &adding(4_097, 9, 1)), 0);
+    assert_eq!(bench.status(0, 4, (3, 1), 5, &adding(4_097, 9, 2)), 9);
+    assert_eq!(bench.status(1, 4, (3, 1), 5, &adding(4_097, 9, 1)), 0);
+    assert_eq!(bench.status(0, 4, (3, 2), 2, &naming(4_097, 8)), 9);
+    assert_eq!(bench.status(0, 4, (3, 2), 2, &naming(4_097, 9)), 0);
+    assert_eq!(bench.status(0, 4, (3, 2), 2, &naming(4_097, 9)), 9);
+    let mut twins = bench.record;
+    twins.device.subscriptions[0] = twins.device.subscriptions[1];
+    assert_eq!(Second.open(twins).number, 1);
+}
+
+#[test]
+fn the_33rd_subscription_finds_no_entry() {
+    let mut bench = Bench::open(1);
+    for object in 0..32 {
+        assert_eq!(bench.status(0, 4, (3, 1), 5, &adding(4_097, object, 0)), 0);
+    }
+    assert_eq!(bench.status(0, 4, (3, 1), 5, &adding(4_097, 32, 0)), 10);
+    assert_eq!(bench.status(0, 4, (3, 1), 5, &adding(4_097, 31, 0)), 9);
+    assert_eq!(bench.status(0, 4, (3, 2), 2, &naming(4_097, 11)), 0);
+    assert_eq!(bench.status(0, 4, (3, 1), 5, &adding(4_097, 32, 0)), 0);
+    assert_eq!(bench.record.device.subscriptions[11].object, 32);
+}
+
+#[test]
+fn the_ninth_opening_is_refused() {
+    let bench = Bench::open(8);
+    let answer = Second.open(bench.record);
+    assert_eq!((answer.number, answer.connection), (5, 0));
+    assert_eq!(answer.record, bench.record);
+}
+
+#[test]
+fn statuses_come_in_their_order() {
+    let mut bench = Bench::open(2);
+    assert_eq!(bench.status(0, 2, (9, 9), 3, &[1]), 5);
+    assert_eq!(bench.status(0, 4_105, (1, 1), 0, &[]), 5);
+    assert_eq!(bench.status(0, 1, (3, 1), 9, &[1]), 11);
+    assert_eq!(bench.status(0, 4, (3, 14), 0, &[]), 11);
+    assert_eq!(bench.status(0, 4_097, (3, 1), 0, &[]), 11);
+    assert_eq!(bench.status(0, 1, (3, 14), 7, &[1, 2]), 8);
+    assert_eq!(bench.status(0, 4, (1, 3), 7, &[]), 8);
+    assert_eq!(bench.status(0, 1, (1, 4), 0, &[]), 8);
+    assert_eq!(bench.status(0, 1, (1, 1), 1, &[]), 4);
+    assert_eq!(bench.status(0, 4_097, (4, 2), 1, &[]), 4);
+    assert_eq!(bench.status(0, 4_097, (4, 2), 2, &[1]), 4);
+    assert_eq!(bench.status(0, 4_097, (4, 2), 1, &[3]), 7);
+    let mut pair = adding(1, 9, 0);
+    pair[22] = 1;
+    assert_eq!(bench.status(0, 4, (3, 1), 5, &pair), 4);
+    let mut mode = adding(4_097, 9, 0);
+    mode[20] = 2;
+    assert_eq!(bench.status(0, 4, (3, 1), 5, &mode), 7);
+    mode[7] = 2;
+    assert_eq!(bench.status(0, 4, (3, 1), 5, &mode), 6);
+    assert_eq!(bench.status(0, 4, (3, 2), 2, &naming(1, 9)), 6);
+}
+
+#[test]
+fn a_failed_command_does_not_stop_the_next_and_a_fault_runs_none() {
+    let mut bench = Bench::open(1);
+    let entries = [
+        command(1, 99, (1, 1), 0, &[]),
+        command(2, 4_097, (4, 2), 1, &[1]),
+        command(3, 4_097, (4, 1), 0, &[]),
+    ];
+    let reply = bench.send(0, &wire::message(1, &entries));
+    let expected = hex("3B 00 01 00 00 00 28 03 00 03 \
+                        00 00 00 0A 00 00 00 01 05 00 \
+                        00 00 00 0A 00 00 00 02 00 00 \
+                        00 00 00 0B 00 00 00 03 00 01 01");
+    assert_eq!(reply, expected);
+    let mut faulty = wire::message(1, &[command(2, 4_097, (4, 2), 1, &[2]), entries[0].clone()]);
+    let last = faulty.len() - 1;
+    faulty[last - 16] = 99;
+    let length = faulty.len();
+    assert_eq!(bench.deliver(0, &faulty), (CLOSED, 6, length, vec![]));
+    assert_eq!(bench.record.device.mutes[0], 1);
+    assert!(!bench.record.device.connections[0].live);
+}
+
+#[test]
+fn faults_are_decided_by_the_first_the_tenth_or_the_last_byte() {
+    let cases: [(&str, u8, usize); 8] = [
+        ("3A", 1, 1),
+        ("3B 00 02 00 00 00 08 05 00 00", 2, 10),
+        ("3B 00 01 00 00 00 08 05 00 00", 3, 10),
+        ("3B 00 01 00 00 08 01 05 00 00", 3, 10),
+        ("3B 00 01 00 00 00 0B 05 00 00", 4, 10),
+        ("3B 00 01 00 00 00 0B 01 00 00", 5, 10),
+        ("3B 00 01 00 00 00 0B 04 00 02", 5, 10),
+        ("3B 00 01 00 00 00 09 01 00 01", 6, 10),
+    ];
+    for (text, fault, taken) in cases {
+        let bytes = hex(text);
+        for cut in 0..bytes.len() {
+            let mut bench = Bench::open(1);
+            let (kind, _, first, _) = bench.deliver(0, &bytes[..cut]);
+            assert_eq!((kind, first), (MORE, cut));
+            let rest = [&bytes[cut..], &[0; 5]].concat();
+            let answer = bench.deliver(0, &rest);
+            assert_eq!(answer, (CLOSED, fault, taken - cut, vec![]));
+            assert_eq!(Second.read_message(&bytes).fault, fault);
+        }
+    }
+}
+
+#[test]
+fn sizes_at_the_limit() {
+    for (length, number, fault) in [(2_048, 0, 0), (2_049, 8, 3)] {
+        let entry = command(1, 1, (1, 1), 1, &vec![0; length - 9 - 17]);
+        let message = wire::message(1, &[entry]);
+        assert_eq!(message.len(), length + 1);
+        let reading = Second.read_message(&message);
+        assert_eq!((reading.number, reading.fault), (number, fault));
+    }
+    let least = vec![command(1, 4_097, (1, 1), 0, &[]); 119];
+    let message = wire::message(1, &least);
+    let mut bench = Bench::open(1);
+    let reply = bench.send(0, &message);
+    assert_eq!(wire::header(&reply).size, 2_627);
+    let mut buffer = vec![0; 2_049];
+    let written = Second.start(&mut buffer, 1, &least[0]);
+    assert_eq!(written.number, 0);
+    for entry in &least[1..] {
+        assert_eq!(Second.append(&mut buffer, 1, entry).number, 0);
+    }
+    assert_eq!(buffer[..message.len()], message);
+    let written = Second.append(&mut buffer, 1, &least[0]);
+    assert_eq!((written.number, written.length), (10, 0));
+}
+
+#[test]
+fn the_writer_refuses_in_its_order() {
+    let entry = command(1, 1, (1, 1), 0, &[]);
+    let mut small = vec![0; 2_048];
+    assert_eq!(Second.start(&mut small, 9, &entry).number, 4);
+    let mut buffer = vec![0; 2_049];
+    assert_eq!(Second.start(&mut buffer, 4, &entry).number, 11);
+    assert_eq!(Second.start(&mut buffer, 3, &entry).number, 11);
+    let long = command(1, 1, (1, 1), 0, &[0; 3_000]);
+    assert_eq!(Second.start(&mut buffer, 1, &long).number, 11);
+    let long = command(1, 1, (1, 1), 1, &[0; 3_000]);
+    assert_eq!(Second.start(&mut buffer, 1, &long).number, 10);
+    let written = Second.append(&mut buffer, 1, &entry);
+    assert_eq!((written.number, written.fault), (8, 1));
+    assert_eq!(Second.keep_alive(&mut buffer, 1, 65_536).number, 11);
+    assert_eq!(Second.keep_alive(&mut buffer, 0, 1).number, 11);
+    assert_eq!(Second.keep_alive(&mut buffer, 3, 1).number, 11);
+    assert_eq!(Second.keep_alive(&mut buffer, 1, 65_535).number, 0);
+    assert_eq!(Second.append(&mut buffer, 4, &entry).number, 11);
+    assert_eq!(Second.start(&mut buffer, 1, &entry).number, 0);
+    assert_eq!(Second.append(&mut buffer, 0, &entry).number, 11);
+    assert_eq!(Second.append(&mut buffer, 1, &long).number, 10);
+}
+
+#[test]
+fn entries_are_read_with_their_parts() {
+    let muted = hex(MUTED);
+    let entry = Second.read_entry(&muted, 0);
+    assert_eq!((entry.number, entry.kind, entry.count), (0, 2, 2));
+    assert_eq!((entry.target, entry.level, entry.index), (9, 3, 1));
+    assert_eq!((entry.context, entry.emitter), (0x0102_0304, 4_097));
+    assert_eq!((entry.event_level, entry.event_index), (1, 1));
+    let part = Second.entry_part(&muted, 0);
+    assert_eq!((part.start, part.length), (35, 6));
+    assert_eq!(Second.read_entry(&muted, 1).number, 12);
+    assert_eq!(Second.entry_part(&muted, 1), Default::default());
+    assert_eq!(Second.read_entry(&hex(TWO_SECONDS), 0).number, 12);
+    assert_eq!(Second.read_entry(&muted[..40], 0).number, 9);
+    assert_eq!(Second.entry_part(&muted[..40], 0), Default::default());
+    let refused = Second.read_entry(&hex(REFUSED), 0);
+    assert_eq!((refused.kind, refused.handle, refused.status), (3, 7, 3));
+}
+
+#[test]
+fn the_listing_prints_the_sample() {
+    let mut input = hex(TWO_SECONDS);
+    input.extend(hex(LOCK));
+    assert_eq!(list(&input), "0 4 1 11\n12 1 1 26\n39 end\n");
+    assert_eq!(list(&input[..38]), "0 4 1 11\n12 part 26\n");
+    input.push(0);
+    assert_eq!(list(&input), "0 4 1 11\n12 1 1 26\n39 stop 1\n");
+    assert_eq!(list(&[]), "0 end\n");
+}

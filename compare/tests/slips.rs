@@ -1,0 +1,511 @@
+//! The comparison can fail: each program below makes one slip, and the
+//! gate's runs have to find it.
+//!
+//! The first difference ends a run, so a slip need only be right about when
+//! it shows.
+
+use compare::answer::{
+    Cleared, Closed, Delivered, Entry, MESSAGE, MORE, NOTIFICATION, Opened, Part, Reading, Taken,
+    Ticked, Written,
+};
+use compare::engine::Engine;
+use compare::harness::gate;
+use compare::record::{AREA, Record};
+use compare::second::{Second, rules};
+
+#[derive(Clone, Copy, Debug, PartialEq, Eq)]
+enum Slip {
+    FreshMuted,
+    ClearLeavesTheLastByte,
+    OpenGivesTheHighest,
+    CloseKeepsLocks,
+    CloseKeepsEntries,
+    CloseKeepsUndecidedBytes,
+    SilenceIn32Bits,
+    LimitIn32Bits,
+    ClosesOnlyPastThreeH,
+    DueOnlyPastH,
+    QuietGrowsWhileDue,
+    ZeroHeartbeatCloses,
+    HalfRoundPasses,
+    TickIgnoresTheArea,
+    RunsBeforeTheCheck,
+    AnyByteIsHeard,
+    NotificationsClearQuiet,
+    RepliesKeepQuiet,
+    ZeroKeepsTheForm,
+    TakesOneTooMany,
+    LargestMessageFaulty,
+    TouchesTheOutputBehind,
+    TouchesTheOutputWithoutReply,
+    EmptyPieceIsRefused,
+    RoomForTheReplyIsEnough,
+    OtherHoldersMaySet,
+    SetToTheSameMarks,
+    ContextTellsTwinsApart,
+    FullTableBeforeTwin,
+    HandlesNotCopied,
+    TwinsUnseen,
+    ClosedHolderUnseen,
+    OddSecondsUnseen,
+    DueWithQuietUnseen,
+    FreeEntryContextUnseen,
+    UndecidedAtMost2049,
+    LastByteOfTheAreaUnseen,
+    DecidedBytesUnseen,
+    ConnectionBeforeRecord,
+    KeepAlivesFirst,
+    HighestEntryFirst,
+    TakeKeepsQuiet,
+    ReaderLooksBehind,
+    CountWithoutBytesFaulty,
+    StatusAndCountSwapped,
+    KeepAliveHasAnEntry,
+    PartFromTheEntry,
+    RefusedPartHasAPlace,
+    TooLongBeforeBadEntry,
+    AppendTouchesBehind,
+    CommandTypesMixed,
+    SecondsCutTo16Bits,
+}
+
+use Slip::*;
+
+const ALL: [Slip; 52] = [
+    FreshMuted,
+    ClearLeavesTheLastByte,
+    OpenGivesTheHighest,
+    CloseKeepsLocks,
+    CloseKeepsEntries,
+    CloseKeepsUndecidedBytes,
+    SilenceIn32Bits,
+    LimitIn32Bits,
+    ClosesOnlyPastThreeH,
+    DueOnlyPastH,
+    QuietGrowsWhileDue,
+    ZeroHeartbeatCloses,
+    HalfRoundPasses,
+    TickIgnoresTheArea,
+    RunsBeforeTheCheck,
+    AnyByteIsHeard,
+    NotificationsClearQuiet,
+    RepliesKeepQuiet,
+    ZeroKeepsTheForm,
+    TakesOneTooMany,
+    LargestMessageFaulty,
+    TouchesTheOutputBehind,
+    TouchesTheOutputWithoutReply,
+    EmptyPieceIsRefused,
+    RoomForTheReplyIsEnough,
+    OtherHoldersMaySet,
+    SetToTheSameMarks,
+    ContextTellsTwinsApart,
+    FullTableBeforeTwin,
+    HandlesNotCopied,
+    TwinsUnseen,
+    ClosedHolderUnseen,
+    OddSecondsUnseen,
+    DueWithQuietUnseen,
+    FreeEntryContextUnseen,
+    UndecidedAtMost2049,
+    LastByteOfTheAreaUnseen,
+    DecidedBytesUnseen,
+    ConnectionBeforeRecord,
+    KeepAlivesFirst,
+    HighestEntryFirst,
+    TakeKeepsQuiet,
+    ReaderLooksBehind,
+    CountWithoutBytesFaulty,
+    StatusAndCountSwapped,
+    KeepAliveHasAnEntry,
+    PartFromTheEntry,
+    RefusedPartHasAPlace,
+    TooLongBeforeBadEntry,
+    AppendTouchesBehind,
+    CommandTypesMixed,
+    SecondsCutTo16Bits,
+];
+
+#[test]
+fn every_slip_is_found() {
+    for slip in ALL {
+        match gate::gate(&Slipping(slip), &Second) {
+            Ok(_) => panic!("{slip:?} was not found"),
+            Err(difference) => {
+                let text = difference.to_string();
+                println!("{slip:?}: {}", text.lines().next().unwrap_or_default());
+            }
+        }
+    }
+}
+
+#[test]
+fn a_difference_is_told_with_seed_step_call_and_both_results() {
+    let difference = gate::gate(&Slipping(CloseKeepsLocks), &Second).expect_err("a slip");
+    let text = difference.to_string();
+    let seed = format!("seed {}, step {}", difference.seed, difference.step);
+    for part in [seed.as_str(), "call: ", "left: ", "right: ", "holder"] {
+        assert!(text.contains(part), "{text}");
+    }
+}
+
+/// The second program with one slip.
+struct Slipping(Slip);
+
+impl Slipping {
+    /// The record as a program sees it that misses one rule.
+    fn seen(&self, record: &Record) -> Record {
+        let mut seen = *record;
+        let device = &mut seen.device;
+        match self.0 {
+            TwinsUnseen => hide_twins(&mut seen),
+            ClosedHolderUnseen => {
+                for holder in &mut device.holders {
+                    if (1..=8).contains(holder) && !device.connections[*holder as usize - 1].live {
+                        *holder = 0;
+                    }
+                }
+            }
+            OddSecondsUnseen => {
+                for connection in &mut device.connections {
+                    if connection.form == 1 && connection.beat % 1_000 != 0 {
+                        connection.form = 2;
+                    }
+                }
+            }
+            DueWithQuietUnseen => {
+                for connection in &mut device.connections {
+                    if connection.due && connection.quiet < connection.beat {
+                        connection.quiet = 0;
+                    }
+                }
+            }
+            FreeEntryContextUnseen => {
+                for entry in &mut device.subscriptions {
+                    if !entry.used {
+                        entry.context = 0;
+                    }
+                }
+            }
+            UndecidedAtMost2049 => {
+                for held in &mut seen.held {
+                    if *held == 2_049 {
+                        *held = 2_048;
+                    }
+                }
+            }
+            _ => {}
+        }
+        seen
+    }
+
+    fn is(&self, slip: Slip) -> bool {
+        self.0 == slip
+    }
+}
+
+fn hide_twins(record: &mut Record) {
+    let entries = &mut record.device.subscriptions;
+    for at in 1..entries.len() {
+        let (before, rest) = entries.split_at_mut(at);
+        let entry = &mut rest[0];
+        let twin = before.iter().any(|other| {
+            let mut same = *other;
+            same.context = entry.context;
+            same.waiting = entry.waiting;
+            entry.used && same == *entry
+        });
+        if twin {
+            *entry = Default::default();
+        }
+    }
+}
+
+/// The mute and value of the set that is the piece's only command.
+fn only_set(piece: &[u8]) -> Option<(usize, u8)> {
+    first_set(piece).filter(|_| piece[9] == 1)
+}
+
+/// The mute and value of the set that is the piece's first command.
+fn first_set(piece: &[u8]) -> Option<(usize, u8)> {
+    let whole = piece.len() >= 28 && piece[7] < 2 && piece[13] == 18;
+    let set = whole && piece[22..26] == [0, 4, 0, 2] && piece[18..20] == [0, 0];
+    (set && piece[20] == 0x10 && (1..=8).contains(&piece[21]))
+        .then(|| (usize::from(piece[21]) - 1, piece[27]))
+}
+
+impl Engine for Slipping {
+    fn fresh(&self, reading: u32) -> Record {
+        let mut record = Second.fresh(reading);
+        if self.is(FreshMuted) {
+            record.device.mutes[7] = 1;
+        }
+        record
+    }
+
+    fn clear(&self, area: &mut [u8]) -> Cleared {
+        let last = area.last().copied();
+        let answer = Second.clear(area);
+        if self.is(ClearLeavesTheLastByte)
+            && let (Some(place), Some(last)) = (area.last_mut(), last)
+        {
+            *place = last;
+        }
+        answer
+    }
+
+    fn open(&self, record: Record) -> Opened {
+        let mut answer = Second.open(self.seen(&record));
+        if self.is(OpenGivesTheHighest) && answer.number == 0 {
+            let connections = &record.device.connections;
+            let highest = connections.iter().rposition(|connection| !connection.live);
+            answer.connection = highest.unwrap_or_default() as u8;
+        }
+        answer
+    }
+
+    fn close(&self, record: Record, area: &mut [u8], n: u8) -> Closed {
+        let before = area.to_vec();
+        if self.is(LastByteOfTheAreaUnseen) && area.len() == AREA {
+            area[AREA - 1] = 0;
+        }
+        if self.is(ConnectionBeforeRecord) && !rules::is_open(&record, n) {
+            return Closed { record, number: 3 };
+        }
+        let mut answer = Second.close(self.seen(&record), area, n);
+        if answer.number != 0 {
+            area.copy_from_slice(&before);
+            return answer;
+        }
+        match self.0 {
+            CloseKeepsLocks => answer.record.device.holders = record.device.holders,
+            CloseKeepsEntries => answer.record.device.subscriptions = record.device.subscriptions,
+            CloseKeepsUndecidedBytes => area.copy_from_slice(&before),
+            _ => {}
+        }
+        answer
+    }
+
+    fn tick(&self, record: Record, area: &mut [u8], reading: u32) -> Ticked {
+        let step = reading.wrapping_sub(record.device.reading);
+        if self.is(HalfRoundPasses) && step == 1 << 31 && rules::hold(&record) {
+            return Ticked {
+                record,
+                ..Ticked::default()
+            };
+        }
+        if self.is(TickIgnoresTheArea) && area.len() == AREA {
+            area.fill(0);
+        }
+        let mut answer = Second.tick(self.seen(&record), area, reading);
+        if answer.number != 0 {
+            return answer;
+        }
+        for n in 0..8 {
+            let before = record.device.connections[n];
+            let after = &mut answer.record.device.connections[n];
+            let silence = before.silence + u64::from(step);
+            let quiet = before.quiet + u64::from(step);
+            let limit = 3 * before.beat;
+            match self.0 {
+                SilenceIn32Bits => after.silence &= 0xFFFF_FFFF,
+                LimitIn32Bits if before.beat > 0 && silence >= (limit & 0xFFFF_FFFF) => {
+                    answer.closed |= 1 << n;
+                }
+                ClosesOnlyPastThreeH if before.beat > 0 && silence == limit => {
+                    answer.closed &= !(1 << n);
+                }
+                DueOnlyPastH if before.beat > 0 && quiet == before.beat => after.due = before.due,
+                QuietGrowsWhileDue if before.due => after.quiet += u64::from(step),
+                ZeroHeartbeatCloses if before.live && before.beat == 0 => answer.closed |= 1 << n,
+                _ => {}
+            }
+        }
+        answer
+    }
+
+    fn deliver(
+        &self,
+        record: Record,
+        area: &mut [u8],
+        n: u8,
+        piece: &[u8],
+        output: &mut [u8],
+    ) -> Delivered {
+        if self.is(EmptyPieceIsRefused) && piece.is_empty() {
+            return Delivered {
+                record,
+                number: 9,
+                ..Delivered::default()
+            };
+        }
+        let mut answer = Second.deliver(self.seen(&record), area, n, piece, output);
+        let at = usize::from(n).min(7);
+        let before = record.device;
+        let set = only_set(piece);
+        let connection = &mut answer.record.device.connections[at];
+        let message = answer.number == 0 && answer.kind == MESSAGE;
+        match self.0 {
+            RunsBeforeTheCheck if answer.fault == 6 => {
+                if let Some((mute, value @ 1..=2)) = first_set(piece) {
+                    answer.record.device.mutes[mute] = value;
+                }
+            }
+            AnyByteIsHeard if answer.kind == MORE && answer.taken > 0 => connection.silence = 0,
+            NotificationsClearQuiet if message && answer.length == 0 => connection.quiet = 0,
+            RepliesKeepQuiet if message && answer.length > 0 => {
+                connection.quiet = before.connections[at].quiet;
+            }
+            ZeroKeepsTheForm if message && connection.beat == 0 => {
+                connection.form = before.connections[at].form;
+            }
+            TakesOneTooMany if answer.taken < piece.len() => answer.taken += 1,
+            LargestMessageFaulty if message && answer.taken == 2_049 => answer.kind = 3,
+            TouchesTheOutputBehind if message && answer.length > 0 => output[answer.length] = 0,
+            TouchesTheOutputWithoutReply if message && answer.length == 0 => output[0] = 0x3B,
+            RoomForTheReplyIsEnough if answer.number == 4 && output.len() >= 2_628 => {
+                answer.number = 0;
+            }
+            OtherHoldersMaySet if message && set.is_some() && answer.length > 0 => {
+                output[18] = if output[18] == 3 { 0 } else { output[18] };
+            }
+            SetToTheSameMarks if message => {
+                if let Some((mute, value)) = set
+                    && before.mutes[mute] == value
+                {
+                    for entry in &mut answer.record.device.subscriptions {
+                        entry.waiting |= entry.emitter == 4_097 + mute as u32;
+                    }
+                }
+            }
+            ContextTellsTwinsApart if message && answer.length == 20 && piece.len() == 50 => {
+                let add = piece[25] == 1;
+                output[18] = if add && output[18] == 9 {
+                    0
+                } else {
+                    output[18]
+                };
+            }
+            FullTableBeforeTwin if message && answer.length == 20 && piece.len() == 50 => {
+                let full = before.subscriptions.iter().all(|entry| entry.used);
+                if output[18] == 9 && full {
+                    output[18] = 10;
+                }
+            }
+            HandlesNotCopied if answer.length >= 20 => output[14..18].fill(0),
+            DecidedBytesUnseen if answer.number == 2 && rules::hold(&record) => {
+                let decided = area.len() == AREA
+                    && (0..8).all(|n| {
+                        let start = 2_049 * n + usize::from(record.held[n]);
+                        area[start..2_049 * (n + 1)].iter().all(|byte| *byte == 0)
+                    });
+                if decided {
+                    answer.number = 0;
+                }
+            }
+            _ => {}
+        }
+        answer
+    }
+
+    fn take(&self, record: Record, output: &mut [u8]) -> Taken {
+        let mut answer = Second.take(self.seen(&record), output);
+        if answer.number != 0 {
+            return answer;
+        }
+        let device = &record.device;
+        let due = device.connections.iter().position(|other| other.due);
+        let highest = device.subscriptions.iter().rposition(|entry| entry.waiting);
+        match self.0 {
+            KeepAlivesFirst if answer.kind == NOTIFICATION && due.is_some() => {
+                answer.connection = due.unwrap_or_default() as u8;
+                answer.kind = 2;
+            }
+            HighestEntryFirst if highest.is_some() => {
+                answer.connection = device.subscriptions[highest.unwrap_or_default()].connection;
+            }
+            TakeKeepsQuiet if answer.kind == NOTIFICATION => {
+                let at = usize::from(answer.connection);
+                answer.record.device.connections[at].quiet = device.connections[at].quiet;
+            }
+            _ => {}
+        }
+        answer
+    }
+
+    fn read_message(&self, bytes: &[u8]) -> Reading {
+        let mut answer = Second.read_message(bytes);
+        if answer.number != 0 {
+            return answer;
+        }
+        let bare = bytes.len() >= 27 && bytes[13] == 17 && bytes[26] != 0;
+        match self.0 {
+            ReaderLooksBehind => answer.length = bytes.len(),
+            CountWithoutBytesFaulty if answer.kind < 2 && bare => {
+                answer = Reading {
+                    number: 8,
+                    fault: 6,
+                    ..Reading::default()
+                };
+            }
+            _ => {}
+        }
+        answer
+    }
+
+    fn read_entry(&self, bytes: &[u8], index: usize) -> Entry {
+        let mut answer = Second.read_entry(bytes, index);
+        match self.0 {
+            StatusAndCountSwapped if answer.kind == 3 => {
+                (answer.status, answer.count) = (answer.count, answer.status);
+            }
+            KeepAliveHasAnEntry if answer.number == 12 && bytes[7] == 4 && index == 0 => {
+                answer.number = 0;
+            }
+            _ => {}
+        }
+        answer
+    }
+
+    fn entry_part(&self, bytes: &[u8], index: usize) -> Part {
+        let mut answer = Second.entry_part(bytes, index);
+        match self.0 {
+            PartFromTheEntry if answer.length > 0 => answer.start -= 1,
+            RefusedPartHasAPlace if answer.start == 0 => answer.start = 10,
+            _ => {}
+        }
+        answer
+    }
+
+    fn start(&self, buffer: &mut [u8], kind: u8, entry: &[u8]) -> Written {
+        let mut answer = Second.start(buffer, kind, entry);
+        if self.is(TooLongBeforeBadEntry) && answer.number == 11 && entry.len() > 2_039 {
+            answer.number = 10;
+        }
+        answer
+    }
+
+    fn append(&self, buffer: &mut [u8], kind: u8, entry: &[u8]) -> Written {
+        let before = buffer.get(7).copied().unwrap_or_default();
+        let mut answer = Second.append(buffer, kind, entry);
+        match self.0 {
+            AppendTouchesBehind if answer.number == 0 => {
+                if let Some(behind) = buffer.get_mut(answer.length) {
+                    *behind = 0;
+                }
+            }
+            CommandTypesMixed if answer.number == 11 && before < 2 && kind < 2 => {
+                answer = Second.append(buffer, before, entry);
+            }
+            _ => {}
+        }
+        answer
+    }
+
+    fn keep_alive(&self, buffer: &mut [u8], form: u8, value: u32) -> Written {
+        if self.is(SecondsCutTo16Bits) && form == 1 {
+            return Second.keep_alive(buffer, form, value & 0xFFFF);
+        }
+        Second.keep_alive(buffer, form, value)
+    }
+}
