@@ -3,3 +3,4 @@ pub mod Gathers
 pub mod Lies
 pub mod Delivers
 pub mod Takes
+pub mod Tells

@@ -3,3 +3,4 @@ pub mod Numbers
 pub mod Calls
 pub mod Deliver
 pub mod Take
+pub mod Tell

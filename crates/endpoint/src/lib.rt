@@ -7,6 +7,7 @@ ghost use Prim.Native.Nat.{_<_};
 ghost use Rattle.endpoint.specs.State.{freshState, livesIn, recordObeys, closedState};
 ghost use Rattle.endpoint.specs.Numbers.{clearingNumbers, openingNumbers, closingNumbers, tickingNumbers, outcome};
 ghost use Rattle.endpoint.specs.Calls.{clearAnswer, clearedArea, openCall, closeCall, tickCall};
+ghost use Rattle.endpoint.specs.Tell.{AnswersTell};
 
 pub mod deliver;
 pub mod take;
@@ -257,3 +258,8 @@ impl Record {
         }
     }
 }
+
+// The numbers of an answer tell it from every other.
+pub fn answers_tell()
+    ensures { λ _. ⌜ AnswersTell ⌝ }
+{}
