@@ -1,6 +1,7 @@
 // The theorems of the product, as contracts of functions that do nothing: each has its line in the verdict.
 ghost use Rattle.promise.specs.Kept.{CallsKeep};
 ghost use Rattle.promise.specs.Stream.{StreamTheorem, CuttingDoesNotMatter, MixingDoesNotMatter};
+ghost use Rattle.promise.specs.Examples.{ExamplesWorked};
 
 // Every call keeps the record rules and the area, so refusals 1 and 2 never come in a run.
 pub fn calls_keep()
@@ -18,4 +19,9 @@ pub fn cutting_does_not_matter()
 
 pub fn mixing_does_not_matter()
     ensures { λ _. ⌜ MixingDoesNotMatter ⌝ }
+{}
+
+// The starred examples of document 01.
+pub fn examples_worked()
+    ensures { λ _. ⌜ ExamplesWorked ⌝ }
 {}
