@@ -4,3 +4,4 @@ pub mod Asks
 pub mod Laws
 pub mod Lents
 pub mod Keeps
+pub mod Technicians

@@ -2,3 +2,4 @@ pub mod Rules
 pub mod Kept
 pub mod Stream
 pub mod Examples
+pub mod Technician

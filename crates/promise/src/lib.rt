@@ -2,6 +2,7 @@
 ghost use Rattle.promise.specs.Kept.{CallsKeep};
 ghost use Rattle.promise.specs.Stream.{StreamTheorem, CuttingDoesNotMatter, MixingDoesNotMatter};
 ghost use Rattle.promise.specs.Examples.{ExamplesWorked};
+ghost use Rattle.promise.specs.Technician.{TechnicianLetIn};
 
 // Every call keeps the record rules and the area, so refusals 1 and 2 never come in a run.
 pub fn calls_keep()
@@ -24,4 +25,9 @@ pub fn mixing_does_not_matter()
 // The starred examples of document 01.
 pub fn examples_worked()
     ensures { λ _. ⌜ ExamplesWorked ⌝ }
+{}
+
+// When a lock of a connection that has gone silent can be taken.
+pub fn technician_let_in()
+    ensures { λ _. ⌜ TechnicianLetIn ⌝ }
 {}
