@@ -7,6 +7,7 @@ use reader::Reading;
 use writer::Written;
 ghost use mathlib.Core.Path.{_≡_};
 ghost use lib.ListN.{length};
+ghost use Rattle.area.specs.Area.{areaBytes, partBytes};
 
 // What is printed for an answer that no example has.
 const OTHER: u64 = 999999;
@@ -17,16 +18,17 @@ fn print_line(text: &[u8], n: u64) {
     io::write_all(STDOUT_FILENO, b"\n");
 }
 
-fn area_space() -> [u8; 16392]
-    ensures { λ r. ⌜ 16392 ≡ length r ⌝ }
+fn area_space() -> [u8; area::AREA]
+    ensures { λ r. ⌜ areaBytes ≡ length r ⌝ }
 {
-    [0; 16392]
+    [0; area::AREA]
 }
 
-fn message_space() -> [u8; 2049]
-    ensures { λ r. ⌜ 2049 ≡ length r ⌝ }
+// The longest message fills it.
+fn message_space() -> [u8; area::PART]
+    ensures { λ r. ⌜ partBytes ≡ length r ⌝ }
 {
-    [0; 2049]
+    [0; area::PART]
 }
 
 // Heartbeat 2 s on connection 0, then silence up to a reading: the tick's mask.
