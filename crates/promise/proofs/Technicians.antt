@@ -1,25 +1,41 @@
 -- When a tick closes a connection, and when not. Assumes nothing.
 use Prim.Native.Nat.{ℕ, zero, suc, _+_, _*_, _^_, _<_, _≤_}
 use mathlib.Core.Path.{_≡_, refl, sym, ap, _∙_}
-use mathlib.Core.Bool.{Bool, cond, true, false, not, _&&_}
+use mathlib.Core.Bool.{Bool, cond, true, false, not, _&&_, _||_}
 use mathlib.Core.List.{List, [], _∷_, _++_}
 use native.Mathlib.Omega.{arith}
 use native.Mathlib.Nat.{not-suc-le-zero, le-of-suc-le-suc}
 use lib.Dec.{eqb, leb, ltb}
-use lib.ListN.{length, getD, List·getD-map}
+use lib.ListN.{length, getD, set, take, drop, length-set, List·getD-map}
+use lib.Seq.{getD-set-other, map-set-same}
 use borrow.Author.Tests.{eqb-true, eqb-false, eq-eqb, ne-eqb, le-leb, lt-leb, not-true, not-false}
-use Rattle.laws.specs.Lists.{all, mask}
+use Rattle.laws.specs.Lists.{all, any, index, mask}
+use Rattle.laws.proofs.Tables.{clash}
 use Rattle.laws.proofs.Conds.{and-left, and-right}
 use Rattle.frame.specs.Decide.{decide}
-use Rattle.frame.specs.declared.Decision.the-variants.{Undecided}
+use Rattle.frame.specs.declared.Decision.{Decision}
+use Rattle.frame.specs.declared.Decision.the-variants.{Undecided, Faulty, Sound}
 use Rattle.area.specs.Area.{areaSound, undecidedOf, heldKept}
-use Rattle.connection.specs.State.{closed, liveAt}
-use Rattle.connection.specs.Supervision.{fitsStep, closesAt, tickedOf}
+use Rattle.connection.specs.State.{connectionCount, closed, opened, liveAt, isFree, lowestDue}
+use Rattle.connection.specs.Supervision.{fitsStep, closesAt, tickedOf, heardOf, sentOf, beatingOf}
 use Rattle.connection.specs.declared.Connection.{Connection}
 use Rattle.connection.proofs.Keeps.{supervision-kept}
 use Rattle.objects.specs.Answers.{failedOf}
 use Rattle.holders.specs.Holders.{ownerOf, isOther}
-use Rattle.device.specs.State.{sweepOf}
+use Rattle.subscription.specs.State.{entryCount, free, twinAt, lowestUnused, lowestWaiting}
+use Rattle.objects.specs.Methods.{lockMethod, unlockMethod, setMethod, addMethod, removeMethod, placeOf, isObject, isLocking, hasMethod}
+use Rattle.objects.specs.Tests.{isForbidden, isMalformed, entryOf, isEmitterBad, isValueBad}
+use Rattle.serve.specs.Serve.{ranWith, ranFirst, lastOf}
+use Rattle.rules.specs.Rule.{Ruled, commandsOf, beatOf, soundOf}
+use Rattle.frame.specs.Limits.{headerEnd, notification, keepAlive}
+use Rattle.frame.specs.Header.{pduType, messageCount}
+use Rattle.frame.specs.Entry.{entrySize}
+use Rattle.fields.specs.Fields.{heartbeatOf}
+use Rattle.device.specs.State.{sweepOf, openOf, closeOf, atConnection, withSubscriptions, withHolders, heardAt, sentAt, toldAt, beatingAt}
+use Rattle.device.specs.Run.{holderAt, muteAt, isHeldByOther, isOutOfTurn, isFull, statusOf, mutedOf, doneOf, answerOf, unchanged, ranBy, runOf}
+use Rattle.device.specs.declared.Opened.{Opened}
+use Rattle.device.specs.declared.Opening.{Opening}
+use Rattle.device.specs.declared.Opening.the-variants as opens
 use Rattle.device.specs.Rules.{deviceObeys}
 use Rattle.device.specs.Time.{tickBy, tickOf}
 use Rattle.device.specs.Closure.{isLockOf, locksOf, Stays}
@@ -29,16 +45,17 @@ use Rattle.device.specs.declared.Ticking.the-variants as ticks
 use Rattle.device.proofs.Keeps.{rules-kept}
 use Rattle.device.proofs.Closures.{closure-frees}
 use Rattle.device.proofs.Commands.{lock-other}
-use Rattle.stream.specs.Machine.{asked}
-use Rattle.endpoint.specs.State.{livesIn, recordObeys}
+use Rattle.stream.specs.Machine.{Call, deliver, ask, asked}
+use Rattle.endpoint.specs.State.{livesIn, recordObeys, closedState}
 use Rattle.endpoint.specs.Numbers.{clockBack, Outcome, refused}
-use Rattle.endpoint.specs.Calls.{tickedBy, tickCall}
-use Rattle.endpoint.specs.Deliver.{leastOutput, heldAt, deliveredBy, takenIn, deliverCall}
+use Rattle.endpoint.specs.Calls.{openedBy, openCall, closeCall, tickedBy, tickCall}
+use Rattle.endpoint.specs.Deliver.{leastOutput, heldAt, messaged, deliveredBy, takenIn, deliverCall}
+use Rattle.endpoint.specs.Take.{entryAt, notifiedOf, sentOut, notifying, reminding, takenBy, takeCall}
 use Rattle.endpoint.specs.declared.Record.{Record}
 use Rattle.endpoint.proofs.States.{live-low}
 use Rattle.promise.specs.Rules as rules
-use Rattle.promise.specs.Rules.{ticking, rule, bitOf, shut, Fine}
-use Rattle.promise.specs.Technician.{Watched, stepAt, passes, Closes, Leaves, lockStatus, ticksCall, allPass, timeOf, Exactly, TechnicianLetIn}
+use Rattle.promise.specs.Rules.{Ask, opening, closing, ticking, taking, rule, bitOf, shut, Fine, callOf}
+use Rattle.promise.specs.Technician.{Watched, stepAt, passes, Closes, Leaves, lockStatus, ticksCall, allPass, timeOf, isApart, Exactly, TechnicianLetIn}
 use Rattle.promise.proofs.Lives.{lives-get, length-lives}
 use Rattle.promise.proofs.Laws.{device-laws}
 
@@ -55,8 +72,13 @@ record Timely (r : Record) (reading : ℕ) : Type 0 where
 
 -- what it gives
 record Ticks (r : Record) (area : List ℕ) (reading : ℕ) : Type 0 where
+  obeys : deviceObeys (r .device) ≡ true
   timely : Timely r reading
   given : tickCall r area reading ≡ tickedBy (ticks.Closed (maskAt r reading)) r (tickOf (r .device) reading) area
+
+device-obeys : (r : Record) → recordObeys r ≡ true → deviceObeys (r .device) ≡ true
+unfolding recordObeys
+device-obeys r o = and-left (deviceObeys (r .device)) _ o
 
 passed : (r : Record) (area : List ℕ) (reading : ℕ) → passes r area reading ≡ true → Ticks r area reading
 unfolding passes tickCall tickBy tickedBy
@@ -73,7 +95,7 @@ passed r area reading p =
     go true o false s b e f h = no (rw (o, s) at p)
     go true o true s true e f h = no (rw (o, s, e) at p)
     go true o true s false e false h = no (rw (o, s, e, h) at p)
-    go true o true s false e true h = record { timely = record { early = e; fits = h }; given = rw (o, s, e, h) }
+    go true o true s false e true h = record { obeys = device-obeys r o; timely = record { early = e; fits = h }; given = rw (o, s, e, h) }
 
 -- a connection that is not open has no byte
 held-none : (lives : List Bool) (held : List ℕ) (n : ℕ) → n < length lives → getD lives n false ≡ false → getD (heldKept lives held) n 0 ≡ 0
@@ -130,12 +152,15 @@ module _ (r : Record) (area : List ℕ) (reading : ℕ) (p : passes r area readi
       idle = never-idle (stepAt r reading) (getD (r .device .connections) n closed) z
 
   module _ (n H s : ℕ) (w : Watched (r .device) n H s) where
+    fine : Fine (r .device)
+    fine = record { obeys = t .obeys; eight = w .eight }
+
     fine-after : Fine (tickOf (r .device) reading .device)
-    fine-after = rw ruled at (device-laws .keeps (r .device) (asked (ticking reading)) (w .fine) tt)
+    fine-after = rw ruled at (device-laws .keeps (r .device) (asked (ticking reading)) fine tt)
 
     bit-is : liveAt (tickOf (r .device) reading .device .connections) n ≡ not (bitOf (maskAt r reading) n)
     unfolding shut
-    bit-is = rw ruled at (device-laws .tells (r .device) (asked (ticking reading)) n (w .fine) tt (w .live))
+    bit-is = rw ruled at (device-laws .tells (r .device) (asked (ticking reading)) n fine tt (w .live))
 
     beats : eqb (getD (r .device .connections) n closed .beat) 0 ≡ false
     beats = rw (w .beat) (ne-eqb H 0 (λ z. omega (arith, w .above)))
@@ -147,11 +172,11 @@ module _ (r : Record) (area : List ℕ) (reading : ℕ) (p : passes r area readi
     late : 3 * H ≤ s + stepAt r reading → closesAt (stepAt r reading) (getD (r .device .connections) n closed) ≡ true
     late l = test ∙ le-leb (3 * H) (s + stepAt r reading) l
 
-    closing : 3 * H ≤ s + stepAt r reading → Closes r area reading n
-    closing l =
+    shutting : 3 * H ≤ s + stepAt r reading → Closes r area reading n
+    shutting l =
         let g = closure-frees .ticking (r .device) reading n (t .timely .early) (t .timely .fits) (late l) in
         let e = tickOf (r .device) reading .device in
-        let low : n < length (livesIn e) = omega (arith, live-low (r .device .connections) n 8 (w .live) (w .fine .eight), length-lives e, fine-after .eight) in
+        let low : n < length (livesIn e) = omega (arith, live-low (r .device .connections) n 8 (w .live) (w .eight), length-lives e, fine-after .eight) in
         record {
           mask = maskAt r reading;
           answer = answer;
@@ -172,7 +197,7 @@ module _ (r : Record) (area : List ℕ) (reading : ℕ) (p : passes r area readi
         let m = supervision-kept .counting (stepAt r reading) c beats k in
         let v : Watched (tickOf (r .device) reading .device) n H (s + stepAt r reading) =
         record {
-          fine = fine-after;
+          eight = fine-after .eight;
           live = g .live;
           above = w .above;
           beat = ap (λ (x : Connection). x .beat) q ∙ m .1 ∙ w .beat;
@@ -247,7 +272,7 @@ first : (r : Record) (area readings : List ℕ) (reading n H s : ℕ) → Watche
 unfolding ticksCall allPass timeOf
 first r area [] y n H s w p l u =
     let a = and-left (passes r area y) _ p in
-    record { shuts = closing r area y a n H s w (omega arith); frees = letting r area y a n H s w (omega arith) }
+    record { shuts = shutting r area y a n H s w (omega arith); frees = letting r area y a n H s w (omega arith) }
 first r area (x ∷ rest) y n H s w p l u =
     let a = and-left (passes r area x) _ p in
     let b = and-right (passes r area x) _ p in
@@ -258,6 +283,240 @@ first r area (x ∷ rest) y n H s w p l u =
     let f : s + stepAt r x + timeOf (r' .device .reading) (rest ++ (y ∷ [])) ≡ s + (stepAt r x + timeOf x (rest ++ (y ∷ []))) = rw q (omega arith) in
     let m = first r' (tickCall r area x .area) rest y n H (s + stepAt r x) (v .watched) b (rw e l) (rw f u) in
     record { shuts = m .shuts; frees = λ k at h z. m .frees k at h (lock-kept n at (r .device) (r' .device) (v .stays) z) }
+
+-- ---- other calls
+length-shut : (d : Device) (k : ℕ) → length (closeOf d k .connections) ≡ length (d .connections)
+unfolding closeOf sweepOf
+length-shut d k = length-set (d .connections) k closed
+
+-- what holds of both branches holds of the test's
+either : {A : Type 0} (P : A → Type 0) (b : Bool) (x y : A) → P x → P y → P (cond b x y)
+either P true x y p q = p
+either P false x y p q = q
+
+-- connection n is as open and as silent as it was, with its H and its locks
+record Same (n : ℕ) (d e : Device) : Type 0 where
+  long : length (e .connections) ≡ length (d .connections)
+  live : getD (e .connections) n closed .live ≡ getD (d .connections) n closed .live
+  beat : getD (e .connections) n closed .beat ≡ getD (d .connections) n closed .beat
+  silence : getD (e .connections) n closed .silence ≡ getD (d .connections) n closed .silence
+  locks : (at : ℕ) → getD (d .holders) at 0 ≡ n + 1 → getD (e .holders) at 0 ≡ n + 1
+
+-- an open connection does not stand at the lowest free number
+opened-other : (cs : List Connection) (n : ℕ) → getD cs n closed .live ≡ true → getD (set cs (index isFree cs) opened) n closed ≡ getD cs n closed
+unfolding isFree
+opened-other [] n l = refl
+opened-other (c ∷ cs) zero l = rw l
+opened-other (c ∷ cs) (suc n) l = go (c .live) (opened-other cs n l)
+  where
+    go : (b : Bool) → getD (set cs (index (λ (x : Connection). not (x .live)) cs) opened) n closed ≡ getD cs n closed
+        → getD (set (c ∷ cs) (cond (not b) 0 (suc (index (λ (x : Connection). not (x .live)) cs))) opened) (suc n) closed ≡ getD cs n closed
+    go false q = refl
+    go true q = q
+
+-- a command with status 0 is not refused by another's lock
+not-held : (a b c e h : Bool) (z : ℕ) → eqb (cond a 5 (cond b 11 (cond c 8 (cond e 4 (cond h 3 z))))) 0 ≡ true → h ≡ false
+not-held a b c e false z q = refl
+not-held true b c e true z q = sym q
+not-held false true c e true z q = sym q
+not-held false false true e true z q = sym q
+not-held false false false true true z q = sym q
+not-held false false false false true z q = sym q
+
+module _ (n : ℕ) where
+  same-refl : (d : Device) → Same n d d
+  same-refl d = record { long = refl; live = refl; beat = refl; silence = refl; locks = λ at h. h }
+
+  same-on : (d e f : Device) → Same n d e → Same n e f → Same n d f
+  same-on d e f a b =
+      record {
+        long = b .long ∙ a .long;
+        live = b .live ∙ a .live;
+        beat = b .beat ∙ a .beat;
+        silence = b .silence ∙ a .silence;
+        locks = λ at h. b .locks at (a .locks at h);
+      }
+
+  same-of : (d e : Device) → length (e .connections) ≡ length (d .connections) → getD (e .connections) n closed ≡ getD (d .connections) n closed
+      → ((at : ℕ) → getD (d .holders) at 0 ≡ n + 1 → getD (e .holders) at 0 ≡ n + 1) → Same n d e
+  same-of d e l c h =
+      record {
+        long = l;
+        live = ap (λ (x : Connection). x .live) c;
+        beat = ap (λ (x : Connection). x .beat) c;
+        silence = ap (λ (x : Connection). x .silence) c;
+        locks = h;
+      }
+
+  -- what the device sends, to whomever
+  sent-same : (d : Device) (k : ℕ) → Same n d (sentAt d k)
+  unfolding sentAt sentOf
+  sent-same d k =
+      record {
+        long = length-set (d .connections) k _;
+        live = alike (λ (x : Connection). x .live) refl;
+        beat = alike (λ (x : Connection). x .beat) refl;
+        silence = alike (λ (x : Connection). x .silence) refl;
+        locks = λ at h. h;
+      }
+    where
+      alike : {A : Type 0} (g : Connection → A) → g (sentOf (getD (d .connections) k closed)) ≡ g (getD (d .connections) k closed)
+          → g (getD (set (d .connections) k (sentOf (getD (d .connections) k closed))) n closed) ≡ g (getD (d .connections) n closed)
+      alike {A} g q =
+          sym (List·getD-map g (set (d .connections) k (sentOf (getD (d .connections) k closed))) n closed)
+          ∙ ap (λ (l : List A). getD l n (g closed)) (map-set-same g (d .connections) k (sentOf (getD (d .connections) k closed)) closed q)
+          ∙ List·getD-map g (d .connections) n closed
+
+  told-same : (d : Device) (i : ℕ) → Same n d (toldAt d i)
+  unfolding toldAt
+  told-same d i = same-of d _ refl refl (λ at h. h)
+
+  open-same : (d : Device) → liveAt (d .connections) n ≡ true → Same n d (openOf d .device)
+  unfolding openOf liveAt
+  open-same d l =
+      either (λ (o : Opened). Same n d (o .device)) (any isFree (d .connections)) _ _
+      (same-of d _ (length-set (d .connections) _ opened) (opened-other (d .connections) n l) (λ at h. h))
+      (same-refl d)
+
+  -- another connection k
+  module _ (k : ℕ) (e : eqb k n ≡ false) where
+    apart : eqb n k ≡ false
+    apart = ne-eqb n k (λ q. eqb-false k n e (sym q))
+
+    at-same : (f : Connection → Connection) (d : Device) → Same n d (atConnection f d k)
+    at-same f d =
+        same-of d _ (length-set (d .connections) k _)
+        (getD-set-other (d .connections) k n (f (getD (d .connections) k closed)) closed (eqb-false n k apart))
+        (λ at h. h)
+
+    close-same : (d : Device) → liveAt (d .connections) n ≡ true → Same n d (closeOf d k)
+    close-same d l =
+        same-of d _ (length-shut d k) (closure-frees .same d k n apart) (λ at h. lock-kept n at d (closeOf d k) (closure-frees .others d k n apart l) h)
+
+    -- the holder at a place that k may lock is not n
+    elsewhere : (d : Device) (at target v : ℕ) → isOther (holderAt d target) k ≡ false → getD (d .holders) at 0 ≡ n + 1 → getD (set (d .holders) (placeOf target) v) at 0 ≡ n + 1
+    unfolding holderAt
+    elsewhere d at target v o h = getD-set-other (d .holders) (placeOf target) at v 0 (λ q. no q) ∙ h
+      where
+        no : at ≡ placeOf target → ⊥
+        no q = clash ⊥ (isOther (getD (d .holders) (placeOf target) 0) k) (rw (← q, h) (other-holds n k e)) o
+
+    -- a command of k
+    done-same : (d : Device) (target m : ℕ) (part : List ℕ) → isHeldByOther d k target m ≡ false → Same n d (doneOf d k target m part)
+    unfolding doneOf mutedOf isHeldByOther isLocking
+    done-same d target m part h =
+        go (eqb m lockMethod) (eqb m unlockMethod) h
+      where
+        P : Device → Type 0
+        P x = Same n d x
+
+        held : (v : ℕ) → isOther (holderAt d target) k ≡ false → Same n d (withHolders d (set (d .holders) (placeOf target) v))
+        held v o = same-of d _ refl refl (λ at q. elsewhere d at target v o q)
+
+        go : (a b : Bool) → (((a || b) || eqb m setMethod) && isOther (holderAt d target) k) ≡ false
+            → Same n d (cond a (withHolders d (set (d .holders) (placeOf target) (ownerOf k)))
+            (cond b (withHolders d (set (d .holders) (placeOf target) 0))
+            (cond (eqb m setMethod) (mutedOf d target (getD part 0 0))
+            (cond (eqb m addMethod) (withSubscriptions d (set (d .subscriptions) (lowestUnused (d .subscriptions)) (entryOf k part)))
+            (cond (eqb m removeMethod) (withSubscriptions d (set (d .subscriptions) (twinAt (entryOf k part) (d .subscriptions)) free))
+            d)))))
+        go true b h = held (ownerOf k) h
+        go false true h = held 0 h
+        go false false h =
+            either P (eqb m setMethod) _ _ (either P (eqb (muteAt d target) (getD part 0 0)) _ _ (same-refl d) (same-of d _ refl refl (λ at q. q)))
+            (either P (eqb m addMethod) _ _ (same-of d _ refl refl (λ at q. q))
+            (either P (eqb m removeMethod) _ _ (same-of d _ refl refl (λ at q. q)) (same-refl d)))
+
+    run-same : (d : Device) (target m count : ℕ) (part : List ℕ) → Same n d (runOf d k target m count part .device)
+    unfolding runOf ranBy statusOf
+    run-same d target m count part = go (statusOf d k target m count part) refl (eqb (statusOf d k target m count part) 0) refl
+      where
+        go : (z : ℕ) → statusOf d k target m count part ≡ z → (b : Bool) → eqb (statusOf d k target m count part) 0 ≡ b
+            → Same n d (cond {A = Ran} b (record { device = doneOf d k target m part; answer = answerOf d target m }) (unchanged d (failedOf z)) .device)
+        go z q true b = done-same d target m part (not-held (not (isObject target)) (not (hasMethod target m)) (isForbidden target m) (isMalformed m count part) (isHeldByOther d k target m)
+            (cond (isEmitterBad m part) 6 (cond (isValueBad m part) 7 (cond (isOutOfTurn d k target m part) 9 (cond (isFull d m) 10 0)))) b)
+        go z q false b = same-refl d
+
+    last-same : (count : ℕ) (d : Device) (kind : ℕ) (t : List ℕ) → Same n d (lastOf count d k kind t)
+    unfolding lastOf ranFirst ranWith
+    last-same zero d kind t = same-refl d
+    last-same (suc c) d kind t =
+        same-on d (ranFirst d k kind t .device) _ (run-same d _ _ _ _) (last-same c (ranFirst d k kind t .device) kind (drop (entrySize kind t) t))
+
+    -- a sound message of k
+    sound-same : (d : Device) (m : List ℕ) → Same n d (soundOf d k m .device)
+    unfolding soundOf beatOf commandsOf heardAt beatingAt
+    sound-same d m =
+        let t = drop headerEnd m in
+        let h = at-same heardOf d in
+        let c = same-on d _ _ h (last-same (messageCount m) (heardAt d k) (pduType m) t) in
+        either P (eqb (pduType m) keepAlive) _ _
+        (either (λ (x : Device). Same n d x) (liveAt (d .connections) k) _ _ (at-same (beatingOf (heartbeatOf t)) d) (same-refl d))
+        (either P (ltb (pduType m) notification) _ _ (either P (eqb (pduType m) 0) _ _ c (same-on d _ _ c (sent-same _ k))) h)
+      where
+        P : Ruled → Type 0
+        P x = Same n d (x .device)
+
+    delivered-same : (r : Record) (area piece xs out : List ℕ) → liveAt (r .device .connections) n ≡ true → (x : Decision)
+        → Same n (r .device) (deliveredBy x r area k (heldAt r k) piece xs out .state .device)
+    unfolding deliveredBy messaged closedState
+    delivered-same r area piece xs out l Undecided = same-refl (r .device)
+    delivered-same r area piece xs out l (Faulty f t) = close-same (r .device) l
+    delivered-same r area piece xs out l (Sound t) = sound-same (r .device) (take t xs)
+
+    deliver-same : (r : Record) (area piece out : List ℕ) → liveAt (r .device .connections) n ≡ true → Same n (r .device) (deliverCall r area k piece out .state .device)
+    unfolding deliverCall takenIn
+    deliver-same r area piece out l =
+        either P (recordObeys r) _ _
+        (either P (areaSound (r .held) area) _ _
+        (either P (liveAt (r .device .connections) k) _ _
+        (either P (ltb (length out) leastOutput) _ _ (same-refl (r .device)) (decided (decide (undecidedOf area k (heldAt r k) ++ piece)) (undecidedOf area k (heldAt r k) ++ piece)))
+        (same-refl (r .device)))
+        (same-refl (r .device)))
+        (same-refl (r .device))
+      where
+        P : Outcome → Type 0
+        P o = Same n (r .device) (o .state .device)
+
+        decided : (x : Decision) (xs : List ℕ) → Same n (r .device) (deliveredBy x r area k (heldAt r k) piece xs out .state .device)
+        decided x xs = delivered-same r area piece xs out l x
+
+-- every call
+call-same : (r : Record) (area : List ℕ) (c : Call Ask (List ℕ)) (n : ℕ) → isApart n c ≡ true → liveAt (r .device .connections) n ≡ true → Same n (r .device) (callOf r area c .state .device)
+unfolding callOf isApart openCall closeCall takeCall takenBy notifying reminding sentOut notifiedOf closedState openedBy
+call-same r area (deliver k piece out) n a l = deliver-same n k (not-true (eqb k n) a) r area piece out l
+call-same r area (ask opening) n a l = either (λ (o : Outcome). Same n (r .device) (o .state .device)) (recordObeys r) _ _ (go (openOf (r .device) .answer)) (same-refl n (r .device))
+  where
+    go : (x : Opening) → Same n (r .device) (openedBy x r (openOf (r .device)) .state .device)
+    go (opens.Number i) = open-same n (r .device) l
+    go opens.Full = same-refl n (r .device)
+call-same r area (ask (closing k)) n a l =
+    either P (recordObeys r) _ _
+    (either P (areaSound (r .held) area) _ _
+    (either P (liveAt (r .device .connections) k) _ _ (close-same n k (not-true (eqb k n) a) (r .device) l) (same-refl n (r .device)))
+    (same-refl n (r .device)))
+    (same-refl n (r .device))
+  where
+    P : Outcome → Type 0
+    P o = Same n (r .device) (o .state .device)
+call-same r area (ask (ticking reading)) n a l = clash _ false a refl
+call-same r area (ask (taking out)) n a l =
+    let d = r .device in
+    let i = lowestWaiting (d .subscriptions) in
+    either P (recordObeys r) _ _
+    (either P (ltb (length out) leastOutput) _ _ (same-refl n d)
+    (either P (ltb i entryCount) _ _ (same-on n d (toldAt d i) _ (told-same n d i) (sent-same n (toldAt d i) (entryAt d i .connection)))
+    (either P (ltb (lowestDue (d .connections)) connectionCount) _ _ (sent-same n d (lowestDue (d .connections))) (same-refl n d))))
+    (same-refl n d)
+  where
+    P : Outcome → Type 0
+    P o = Same n (r .device) (o .state .device)
+
+meanwhile : (r : Record) (area : List ℕ) (c : Call Ask (List ℕ)) (n H s : ℕ) → isApart n c ≡ true → Watched (r .device) n H s → Watched (callOf r area c .state .device) n H s
+unfolding liveAt
+meanwhile r area c n H s a w =
+    let e = call-same r area c n a (w .live) in
+    record { eight = e .long ∙ w .eight; live = e .live ∙ w .live; above = w .above; beat = e .beat ∙ w .beat; silent = e .silence ∙ w .silent }
 
 -- ---- bytes that decide nothing, and refusals
 half : (r : Record) (area : List ℕ) (n : ℕ) (piece out : List ℕ) → decide (undecidedOf area n (heldAt r n) ++ piece) ≡ Undecided → deliverCall r area n piece out .state .device ≡ r .device
@@ -273,15 +532,11 @@ half r area n piece out e = go (recordObeys r) (areaSound (r .held) area) (liveA
     go true true true false = rw e
 
 module _ (r : Record) (area : List ℕ) (reading : ℕ) (o : recordObeys r ≡ true) (a : areaSound (r .held) area ≡ true) where
-  obeys : deviceObeys (r .device) ≡ true
-  unfolding recordObeys
-  obeys = and-left (deviceObeys (r .device)) _ o
-
   passing : stepAt r reading ≤ 2147483647 → passes r area reading ≡ true
   unfolding passes tickCall tickBy tickedBy
   passing h =
       let e = lt-leb (2 ^ 31) (stepAt r reading) (omega arith) in
-      rw (o, a, e, rules-kept .fitting (r .device) reading obeys e)
+      rw (o, a, e, rules-kept .fitting (r .device) reading (device-obeys r o) e)
 
   refusing : 2147483648 ≤ stepAt r reading → tickCall r area reading ≡ refused clockBack r area []
   unfolding tickCall tickBy tickedBy
@@ -292,13 +547,13 @@ exactly : (H last next : ℕ) → last < 3 * H → 3 * H ≤ next → Exactly H 
 exactly H last next l u =
     record {
       stays = λ r area x n s w p e. rw e at (leaving r area x p n H s w (omega arith));
-      closes = λ r area x n s w p e. closing r area x p n H s w (omega arith);
+      closes = λ r area x n s w p e. shutting r area x p n H s w (omega arith);
     }
 
 pub technician-let-in : TechnicianLetIn
 technician-let-in =
     record {
-      closes = λ r area x n H s w p. closing r area x p n H s w;
+      closes = λ r area x n H s w p. shutting r area x p n H s w;
       letIn = λ r area x n H s w p. letting r area x p n H s w;
       never = λ r area x n H s w p. leaving r area x p n H s w;
       unwatched = unwatched;
@@ -308,6 +563,8 @@ technician-let-in =
       first = λ r area readings x n H s w p l u. first r area readings x n H s w p l u .shuts;
       firstLetIn = λ r area readings x n H s w p l u. first r area readings x n H s w p l u .frees;
       halfMessage = half;
+      meanwhile = meanwhile;
+      lockStays = λ r area c n at a l. call-same r area c n a l .locks at;
       passing = passing;
       refusing = refusing;
       thirtySeconds = exactly 30000 89999 90000 (omega arith) (omega arith);

@@ -3,10 +3,10 @@
 -- 3 × H or more the connection is closed", and "A closure frees the connection's locks".
 use Prim.Native.Nat.{ℕ, _+_, _*_, _<_, _≤_}
 use mathlib.Core.Path.{_≡_}
-use mathlib.Core.Bool.{Bool, true, false, _&&_}
+use mathlib.Core.Bool.{Bool, true, false, not, _&&_}
 use mathlib.Core.List.{List, [], _∷_, _++_}
 use lib.Dec.{eqb}
-use lib.ListN.{getD}
+use lib.ListN.{length, getD}
 use Rattle.frame.specs.Decide.{decide}
 use Rattle.frame.specs.declared.Decision.the-variants.{Undecided}
 use Rattle.area.specs.Area.{areaSound, undecidedOf}
@@ -18,16 +18,18 @@ use Rattle.device.specs.Time.{stepOf}
 use Rattle.device.specs.Run.{runOf}
 use Rattle.device.specs.Closure.{Gone, Stays}
 use Rattle.device.specs.declared.Device.{Device}
+use Rattle.stream.specs.Machine.{Call, deliver, ask}
 use Rattle.endpoint.specs.State.{recordObeys}
 use Rattle.endpoint.specs.Numbers.{clockBack, refused}
 use Rattle.endpoint.specs.Calls.{tickCall}
 use Rattle.endpoint.specs.Deliver.{heldAt, deliverCall}
 use Rattle.endpoint.specs.declared.Record.{Record}
-use Rattle.promise.specs.Rules.{bitOf, Fine}
+use Rattle.promise.specs.Rules.{Ask, opening, closing, ticking, taking, bitOf, callOf}
 
--- connection n of a device that obeys the rules is open, with heartbeat H above zero and that silence
+-- connection n of a device of eight is open, with heartbeat H above zero and that silence; that the device obeys the rules follows
+-- where a call is not refused
 pub record Watched (d : Device) (n H silence : ℕ) : Type 0 where
-  pub fine : Fine d
+  pub eight : length (d .connections) ≡ 8
   pub live : liveAt (d .connections) n ≡ true
   pub above : 0 < H
   pub beat : getD (d .connections) n closed .beat ≡ H
@@ -79,6 +81,16 @@ unfoldable pub timeOf : ℕ → List ℕ → ℕ
 timeOf last [] = 0
 timeOf last (reading ∷ rest) = stepOf reading last + timeOf reading rest
 
+-- ---- other calls
+
+-- a call that is no tick and neither brings bytes of connection n nor closes it
+unfoldable pub isApart : ℕ → Call Ask (List ℕ) → Bool
+isApart n (deliver k piece out) = not (eqb k n)
+isApart n (ask opening) = true
+isApart n (ask (closing k)) = not (eqb k n)
+isApart n (ask (ticking reading)) = false
+isApart n (ask (taking out)) = true
+
 -- ---- with numbers
 
 -- with heartbeat H a silence of that last number stays open, and the next one closes
@@ -105,6 +117,9 @@ pub record TechnicianLetIn : Type 0 where
   pub firstLetIn : (r : Record) (area readings : List ℕ) (reading n H silence : ℕ) → Watched (r .device) n H silence → allPass r area (readings ++ (reading ∷ [])) ≡ true → silence + timeOf (r .device .reading) readings < 3 * H → 3 * H ≤ silence + timeOf (r .device .reading) (readings ++ (reading ∷ [])) → (k at : ℕ) → at < muteCount → getD (r .device .holders) at 0 ≡ n + 1 → lockStatus (ticksCall r area (readings ++ (reading ∷ [])) .0 .device) k at ≡ 0
   -- half a message changes neither silence nor lock: bytes that decide nothing leave the device as it is
   pub halfMessage : (r : Record) (area : List ℕ) (n : ℕ) (piece out : List ℕ) → decide (undecidedOf area n (heldAt r n) ++ piece) ≡ Undecided → deliverCall r area n piece out .state .device ≡ r .device
+  -- nor does what others do meanwhile: their messages, faults and closes, an opening, and whatever the device sends
+  pub meanwhile : (r : Record) (area : List ℕ) (c : Call Ask (List ℕ)) (n H silence : ℕ) → isApart n c ≡ true → Watched (r .device) n H silence → Watched (callOf r area c .state .device) n H silence
+  pub lockStays : (r : Record) (area : List ℕ) (c : Call Ask (List ℕ)) (n at : ℕ) → isApart n c ≡ true → liveAt (r .device .connections) n ≡ true → getD (r .device .holders) at 0 ≡ n + 1 → getD (callOf r area c .state .device .holders) at 0 ≡ n + 1
   -- a sound record and area refuse a tick only by its step
   pub passing : (r : Record) (area : List ℕ) (reading : ℕ) → recordObeys r ≡ true → areaSound (r .held) area ≡ true → stepAt r reading ≤ 2147483647 → passes r area reading ≡ true
   pub refusing : (r : Record) (area : List ℕ) (reading : ℕ) → recordObeys r ≡ true → areaSound (r .held) area ≡ true → 2147483648 ≤ stepAt r reading → tickCall r area reading ≡ refused clockBack r area []
