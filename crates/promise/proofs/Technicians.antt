@@ -12,7 +12,8 @@ use borrow.Author.Tests.{eqb-true, eqb-false, eq-eqb, ne-eqb, le-leb, lt-leb, no
 use Rattle.laws.specs.Lists.{all, any, index, mask}
 use Rattle.laws.proofs.Tables.{clash}
 use Rattle.laws.proofs.Conds.{and-left, and-right}
-use Rattle.frame.specs.Decide.{decide}
+use Rattle.frame.specs.Decide.{decide, settled}
+use Rattle.frame.proofs.Ways.{unsettled}
 use Rattle.frame.specs.declared.Decision.{Decision}
 use Rattle.frame.specs.declared.Decision.the-variants.{Undecided, Faulty, Sound}
 use Rattle.area.specs.Area.{areaSound, undecidedOf, heldKept}
@@ -55,7 +56,7 @@ use Rattle.endpoint.specs.declared.Record.{Record}
 use Rattle.endpoint.proofs.States.{live-low}
 use Rattle.promise.specs.Rules as rules
 use Rattle.promise.specs.Rules.{Ask, opening, closing, ticking, taking, rule, bitOf, shut, Fine, callOf}
-use Rattle.promise.specs.Technician.{Watched, stepAt, passes, Closes, Leaves, lockStatus, ticksCall, allPass, timeOf, isApart, Exactly, TechnicianLetIn}
+use Rattle.promise.specs.Technician.{Watched, stepAt, passes, Closes, Leaves, lockStatus, isSilent, callsOf, allSilent, readingBy, stepBy, timeOf, Exactly, TechnicianLetIn}
 use Rattle.promise.proofs.Lives.{lives-get, length-lives}
 use Rattle.promise.proofs.Laws.{device-laws}
 
@@ -247,44 +248,11 @@ locked-out d n k at e h q =
     ap (λ (x : Ran). x .answer .status)
     (sym (lock-other d k at h (isOther (getD (d .holders) at 0) k) refl (rw q (other-holds n k e)) (failedOf 3) refl))
 
--- ---- ticks one after another
-many : (r : Record) (area readings : List ℕ) (n H s : ℕ) → Watched (r .device) n H s → allPass r area readings ≡ true → s + timeOf (r .device .reading) readings < 3 * H
-    → Watched (ticksCall r area readings .0 .device) n H (s + timeOf (r .device .reading) readings) × Stays n (r .device) (ticksCall r area readings .0 .device)
-unfolding ticksCall allPass timeOf
-many r area [] n H s w p l = let e : s + 0 ≡ s = omega arith in (rw e w, record { live = w .live; locks = refl; entries = refl })
-many r area (x ∷ rest) n H s w p l =
-    let a = and-left (passes r area x) _ p in
-    let b = and-right (passes r area x) _ p in
-    let r' = tickCall r area x .state in
-    let q : r' .device .reading ≡ x = moved r area x a in
-    let v = leaving r area x a n H s w (omega arith) in
-    let e : s + stepAt r x + timeOf (r' .device .reading) rest ≡ s + (stepAt r x + timeOf x rest) = rw q (omega arith) in
-    let m = many r' (tickCall r area x .area) rest n H (s + stepAt r x) (v .watched) b (rw e l) in
-    (rw e at (m .0), stays-on n (r .device) (r' .device) _ (v .stays) (m .1))
-
--- the tick that closes, and what it frees
-record Opens (r : Record) (area : List ℕ) (readings : List ℕ) (reading n : ℕ) : Type 0 where
-  shuts : Closes (ticksCall r area readings .0) (ticksCall r area readings .1) reading n
-  frees : (k at : ℕ) → at < 8 → getD (r .device .holders) at 0 ≡ n + 1 → lockStatus (ticksCall r area (readings ++ (reading ∷ [])) .0 .device) k at ≡ 0
-
-first : (r : Record) (area readings : List ℕ) (reading n H s : ℕ) → Watched (r .device) n H s → allPass r area (readings ++ (reading ∷ [])) ≡ true
-    → s + timeOf (r .device .reading) readings < 3 * H → 3 * H ≤ s + timeOf (r .device .reading) (readings ++ (reading ∷ [])) → Opens r area readings reading n
-unfolding ticksCall allPass timeOf
-first r area [] y n H s w p l u =
-    let a = and-left (passes r area y) _ p in
-    record { shuts = shutting r area y a n H s w (omega arith); frees = letting r area y a n H s w (omega arith) }
-first r area (x ∷ rest) y n H s w p l u =
-    let a = and-left (passes r area x) _ p in
-    let b = and-right (passes r area x) _ p in
-    let r' = tickCall r area x .state in
-    let q : r' .device .reading ≡ x = moved r area x a in
-    let v = leaving r area x a n H s w (omega arith) in
-    let e : s + stepAt r x + timeOf (r' .device .reading) rest ≡ s + (stepAt r x + timeOf x rest) = rw q (omega arith) in
-    let f : s + stepAt r x + timeOf (r' .device .reading) (rest ++ (y ∷ [])) ≡ s + (stepAt r x + timeOf x (rest ++ (y ∷ []))) = rw q (omega arith) in
-    let m = first r' (tickCall r area x .area) rest y n H (s + stepAt r x) (v .watched) b (rw e l) (rw f u) in
-    record { shuts = m .shuts; frees = λ k at h z. m .frees k at h (lock-kept n at (r .device) (r' .device) (v .stays) z) }
-
 -- ---- other calls
+reading-shut : (d : Device) (k : ℕ) → closeOf d k .reading ≡ d .reading
+unfolding closeOf sweepOf
+reading-shut d k = refl
+
 length-shut : (d : Device) (k : ℕ) → length (closeOf d k .connections) ≡ length (d .connections)
 unfolding closeOf sweepOf
 length-shut d k = length-set (d .connections) k closed
@@ -296,6 +264,7 @@ either P false x y p q = q
 
 -- connection n is as open and as silent as it was, with its H and its locks
 record Same (n : ℕ) (d e : Device) : Type 0 where
+  reading : e .reading ≡ d .reading
   long : length (e .connections) ≡ length (d .connections)
   live : getD (e .connections) n closed .live ≡ getD (d .connections) n closed .live
   beat : getD (e .connections) n closed .beat ≡ getD (d .connections) n closed .beat
@@ -325,11 +294,12 @@ not-held false false false false true z q = sym q
 
 module _ (n : ℕ) where
   same-refl : (d : Device) → Same n d d
-  same-refl d = record { long = refl; live = refl; beat = refl; silence = refl; locks = λ at h. h }
+  same-refl d = record { reading = refl; long = refl; live = refl; beat = refl; silence = refl; locks = λ at h. h }
 
   same-on : (d e f : Device) → Same n d e → Same n e f → Same n d f
   same-on d e f a b =
       record {
+        reading = b .reading ∙ a .reading;
         long = b .long ∙ a .long;
         live = b .live ∙ a .live;
         beat = b .beat ∙ a .beat;
@@ -337,10 +307,11 @@ module _ (n : ℕ) where
         locks = λ at h. b .locks at (a .locks at h);
       }
 
-  same-of : (d e : Device) → length (e .connections) ≡ length (d .connections) → getD (e .connections) n closed ≡ getD (d .connections) n closed
+  same-of : (d e : Device) → e .reading ≡ d .reading → length (e .connections) ≡ length (d .connections) → getD (e .connections) n closed ≡ getD (d .connections) n closed
       → ((at : ℕ) → getD (d .holders) at 0 ≡ n + 1 → getD (e .holders) at 0 ≡ n + 1) → Same n d e
-  same-of d e l c h =
+  same-of d e z l c h =
       record {
+        reading = z;
         long = l;
         live = ap (λ (x : Connection). x .live) c;
         beat = ap (λ (x : Connection). x .beat) c;
@@ -353,6 +324,7 @@ module _ (n : ℕ) where
   unfolding sentAt sentOf
   sent-same d k =
       record {
+        reading = refl;
         long = length-set (d .connections) k _;
         live = alike (λ (x : Connection). x .live) refl;
         beat = alike (λ (x : Connection). x .beat) refl;
@@ -369,13 +341,13 @@ module _ (n : ℕ) where
 
   told-same : (d : Device) (i : ℕ) → Same n d (toldAt d i)
   unfolding toldAt
-  told-same d i = same-of d _ refl refl (λ at h. h)
+  told-same d i = same-of d _ refl refl refl (λ at h. h)
 
   open-same : (d : Device) → liveAt (d .connections) n ≡ true → Same n d (openOf d .device)
   unfolding openOf liveAt
   open-same d l =
       either (λ (o : Opened). Same n d (o .device)) (any isFree (d .connections)) _ _
-      (same-of d _ (length-set (d .connections) _ opened) (opened-other (d .connections) n l) (λ at h. h))
+      (same-of d _ refl (length-set (d .connections) _ opened) (opened-other (d .connections) n l) (λ at h. h))
       (same-refl d)
 
   -- another connection k
@@ -385,13 +357,13 @@ module _ (n : ℕ) where
 
     at-same : (f : Connection → Connection) (d : Device) → Same n d (atConnection f d k)
     at-same f d =
-        same-of d _ (length-set (d .connections) k _)
+        same-of d _ refl (length-set (d .connections) k _)
         (getD-set-other (d .connections) k n (f (getD (d .connections) k closed)) closed (eqb-false n k apart))
         (λ at h. h)
 
     close-same : (d : Device) → liveAt (d .connections) n ≡ true → Same n d (closeOf d k)
     close-same d l =
-        same-of d _ (length-shut d k) (closure-frees .same d k n apart) (λ at h. lock-kept n at d (closeOf d k) (closure-frees .others d k n apart l) h)
+        same-of d _ (reading-shut d k) (length-shut d k) (closure-frees .same d k n apart) (λ at h. lock-kept n at d (closeOf d k) (closure-frees .others d k n apart l) h)
 
     -- the holder at a place that k may lock is not n
     elsewhere : (d : Device) (at target v : ℕ) → isOther (holderAt d target) k ≡ false → getD (d .holders) at 0 ≡ n + 1 → getD (set (d .holders) (placeOf target) v) at 0 ≡ n + 1
@@ -411,7 +383,7 @@ module _ (n : ℕ) where
         P x = Same n d x
 
         held : (v : ℕ) → isOther (holderAt d target) k ≡ false → Same n d (withHolders d (set (d .holders) (placeOf target) v))
-        held v o = same-of d _ refl refl (λ at q. elsewhere d at target v o q)
+        held v o = same-of d _ refl refl refl (λ at q. elsewhere d at target v o q)
 
         go : (a b : Bool) → (((a || b) || eqb m setMethod) && isOther (holderAt d target) k) ≡ false
             → Same n d (cond a (withHolders d (set (d .holders) (placeOf target) (ownerOf k)))
@@ -423,9 +395,9 @@ module _ (n : ℕ) where
         go true b h = held (ownerOf k) h
         go false true h = held 0 h
         go false false h =
-            either P (eqb m setMethod) _ _ (either P (eqb (muteAt d target) (getD part 0 0)) _ _ (same-refl d) (same-of d _ refl refl (λ at q. q)))
-            (either P (eqb m addMethod) _ _ (same-of d _ refl refl (λ at q. q))
-            (either P (eqb m removeMethod) _ _ (same-of d _ refl refl (λ at q. q)) (same-refl d)))
+            either P (eqb m setMethod) _ _ (either P (eqb (muteAt d target) (getD part 0 0)) _ _ (same-refl d) (same-of d _ refl refl refl (λ at q. q)))
+            (either P (eqb m addMethod) _ _ (same-of d _ refl refl refl (λ at q. q))
+            (either P (eqb m removeMethod) _ _ (same-of d _ refl refl refl (λ at q. q)) (same-refl d)))
 
     run-same : (d : Device) (target m count : ℕ) (part : List ℕ) → Same n d (runOf d k target m count part .device)
     unfolding runOf ranBy statusOf
@@ -481,44 +453,7 @@ module _ (n : ℕ) where
         decided : (x : Decision) (xs : List ℕ) → Same n (r .device) (deliveredBy x r area k (heldAt r k) piece xs out .state .device)
         decided x xs = delivered-same r area piece xs out l x
 
--- every call
-call-same : (r : Record) (area : List ℕ) (c : Call Ask (List ℕ)) (n : ℕ) → isApart n c ≡ true → liveAt (r .device .connections) n ≡ true → Same n (r .device) (callOf r area c .state .device)
-unfolding callOf isApart openCall closeCall takeCall takenBy notifying reminding sentOut notifiedOf closedState openedBy
-call-same r area (deliver k piece out) n a l = deliver-same n k (not-true (eqb k n) a) r area piece out l
-call-same r area (ask opening) n a l = either (λ (o : Outcome). Same n (r .device) (o .state .device)) (recordObeys r) _ _ (go (openOf (r .device) .answer)) (same-refl n (r .device))
-  where
-    go : (x : Opening) → Same n (r .device) (openedBy x r (openOf (r .device)) .state .device)
-    go (opens.Number i) = open-same n (r .device) l
-    go opens.Full = same-refl n (r .device)
-call-same r area (ask (closing k)) n a l =
-    either P (recordObeys r) _ _
-    (either P (areaSound (r .held) area) _ _
-    (either P (liveAt (r .device .connections) k) _ _ (close-same n k (not-true (eqb k n) a) (r .device) l) (same-refl n (r .device)))
-    (same-refl n (r .device)))
-    (same-refl n (r .device))
-  where
-    P : Outcome → Type 0
-    P o = Same n (r .device) (o .state .device)
-call-same r area (ask (ticking reading)) n a l = clash _ false a refl
-call-same r area (ask (taking out)) n a l =
-    let d = r .device in
-    let i = lowestWaiting (d .subscriptions) in
-    either P (recordObeys r) _ _
-    (either P (ltb (length out) leastOutput) _ _ (same-refl n d)
-    (either P (ltb i entryCount) _ _ (same-on n d (toldAt d i) _ (told-same n d i) (sent-same n (toldAt d i) (entryAt d i .connection)))
-    (either P (ltb (lowestDue (d .connections)) connectionCount) _ _ (sent-same n d (lowestDue (d .connections))) (same-refl n d))))
-    (same-refl n d)
-  where
-    P : Outcome → Type 0
-    P o = Same n (r .device) (o .state .device)
-
-meanwhile : (r : Record) (area : List ℕ) (c : Call Ask (List ℕ)) (n H s : ℕ) → isApart n c ≡ true → Watched (r .device) n H s → Watched (callOf r area c .state .device) n H s
-unfolding liveAt
-meanwhile r area c n H s a w =
-    let e = call-same r area c n a (w .live) in
-    record { eight = e .long ∙ w .eight; live = e .live ∙ w .live; above = w .above; beat = e .beat ∙ w .beat; silent = e .silence ∙ w .silent }
-
--- ---- bytes that decide nothing, and refusals
+-- ---- bytes that decide nothing
 half : (r : Record) (area : List ℕ) (n : ℕ) (piece out : List ℕ) → decide (undecidedOf area n (heldAt r n) ++ piece) ≡ Undecided → deliverCall r area n piece out .state .device ≡ r .device
 unfolding deliverCall takenIn deliveredBy
 half r area n piece out e = go (recordObeys r) (areaSound (r .held) area) (liveAt (r .device .connections) n) (ltb (length out) leastOutput)
@@ -531,6 +466,118 @@ half r area n piece out e = go (recordObeys r) (areaSound (r .held) area) (liveA
     go true true true true = refl
     go true true true false = rw e
 
+-- ---- every call
+open-call : (r : Record) (n : ℕ) → liveAt (r .device .connections) n ≡ true → Same n (r .device) (openCall r .state .device)
+unfolding openCall openedBy
+open-call r n l = either (λ (o : Outcome). Same n (r .device) (o .state .device)) (recordObeys r) _ _ (go (openOf (r .device) .answer)) (same-refl n (r .device))
+  where
+    go : (x : Opening) → Same n (r .device) (openedBy x r (openOf (r .device)) .state .device)
+    go (opens.Number i) = open-same n (r .device) l
+    go opens.Full = same-refl n (r .device)
+
+close-call : (r : Record) (area : List ℕ) (k n : ℕ) → not (eqb k n) ≡ true → liveAt (r .device .connections) n ≡ true → Same n (r .device) (closeCall r area k .state .device)
+unfolding closeCall closedState
+close-call r area k n a l =
+    either P (recordObeys r) _ _
+    (either P (areaSound (r .held) area) _ _
+    (either P (liveAt (r .device .connections) k) _ _ (close-same n k (not-true (eqb k n) a) (r .device) l) (same-refl n (r .device)))
+    (same-refl n (r .device)))
+    (same-refl n (r .device))
+  where
+    P : Outcome → Type 0
+    P o = Same n (r .device) (o .state .device)
+
+take-call : (r : Record) (out : List ℕ) (n : ℕ) → Same n (r .device) (takeCall r out .state .device)
+unfolding takeCall takenBy notifying reminding sentOut notifiedOf
+take-call r out n =
+    let d = r .device in
+    let i = lowestWaiting (d .subscriptions) in
+    either P (recordObeys r) _ _
+    (either P (ltb (length out) leastOutput) _ _ (same-refl n d)
+    (either P (ltb i entryCount) _ _ (same-on n d (toldAt d i) _ (told-same n d i) (sent-same n (toldAt d i) (entryAt d i .connection)))
+    (either P (ltb (lowestDue (d .connections)) connectionCount) _ _ (sent-same n d (lowestDue (d .connections))) (same-refl n d))))
+    (same-refl n d)
+  where
+    P : Outcome → Type 0
+    P o = Same n (r .device) (o .state .device)
+
+deliver-call : (r : Record) (area : List ℕ) (k : ℕ) (piece out : List ℕ) (n : ℕ) → (not (eqb k n) || not (settled (decide (undecidedOf area k (heldAt r k) ++ piece)))) ≡ true → liveAt (r .device .connections) n ≡ true
+    → Same n (r .device) (deliverCall r area k piece out .state .device)
+deliver-call r area k piece out n a l = go (eqb k n) refl a
+  where
+    go : (b : Bool) → eqb k n ≡ b → (not b || not (settled (decide (undecidedOf area k (heldAt r k) ++ piece)))) ≡ true → Same n (r .device) (deliverCall r area k piece out .state .device)
+    go false e a = deliver-same n k e r area piece out l
+    go true e a =
+        let u = unsettled (decide (undecidedOf area k (heldAt r k) ++ piece)) (not-true _ a) in
+        rw (half r area k piece out u) (same-refl n (r .device))
+
+-- connection n of e is watched with silence s, has its locks of d, and e has that reading
+record Holds (n H s last : ℕ) (d e : Device) : Type 0 where
+  watched : Watched e n H s
+  locks : (at : ℕ) → getD (d .holders) at 0 ≡ n + 1 → getD (e .holders) at 0 ≡ n + 1
+  reading : e .reading ≡ last
+
+same-holds : (n H s : ℕ) (d e : Device) → Watched d n H s → Same n d e → Holds n H (s + 0) (d .reading) d e
+unfolding liveAt
+same-holds n H s d e w a =
+    let z : s + 0 ≡ s = omega arith in
+    record {
+      watched = record { eight = a .long ∙ w .eight; live = a .live ∙ w .live; above = w .above; beat = a .beat ∙ w .beat; silent = a .silence ∙ w .silent ∙ sym z };
+      locks = a .locks;
+      reading = a .reading;
+    }
+
+one : (r : Record) (area : List ℕ) (c : Call Ask (List ℕ)) (n H s : ℕ) → isSilent n r area c ≡ true → Watched (r .device) n H s → s + stepBy (r .device .reading) c < 3 * H
+    → Holds n H (s + stepBy (r .device .reading) c) (readingBy (r .device .reading) c) (r .device) (callOf r area c .state .device)
+unfolding callOf isSilent stepBy readingBy
+one r area (deliver k piece out) n H s a w l = same-holds n H s (r .device) _ w (deliver-call r area k piece out n a (w .live))
+one r area (ask opening) n H s a w l = same-holds n H s (r .device) _ w (open-call r n (w .live))
+one r area (ask (closing k)) n H s a w l = same-holds n H s (r .device) _ w (close-call r area k n a (w .live))
+one r area (ask (ticking x)) n H s a w l =
+    let v = leaving r area x a n H s w l in
+    record { watched = v .watched; locks = λ at h. lock-kept n at (r .device) (tickCall r area x .state .device) (v .stays) h; reading = moved r area x a }
+one r area (ask (taking out)) n H s a w l = same-holds n H s (r .device) _ w (take-call r out n)
+
+-- ---- calls one after another
+record Still (n H s : ℕ) (d e : Device) : Type 0 where
+  watched : Watched e n H s
+  locks : (at : ℕ) → getD (d .holders) at 0 ≡ n + 1 → getD (e .holders) at 0 ≡ n + 1
+
+many : (r : Record) (area : List ℕ) (calls : List (Call Ask (List ℕ))) (n H s : ℕ) → Watched (r .device) n H s → allSilent n r area calls ≡ true → s + timeOf (r .device .reading) calls < 3 * H
+    → Still n H (s + timeOf (r .device .reading) calls) (r .device) (callsOf r area calls .0 .device)
+unfolding callsOf allSilent timeOf
+many r area [] n H s w p l = let e : s + 0 ≡ s = omega arith in record { watched = rw e w; locks = λ at h. h }
+many r area (c ∷ rest) n H s w p l =
+    let a = and-left (isSilent n r area c) _ p in
+    let b = and-right (isSilent n r area c) _ p in
+    let r' = callOf r area c .state in
+    let v = one r area c n H s a w (omega arith) in
+    let e : s + stepBy (r .device .reading) c + timeOf (r' .device .reading) rest ≡ s + (stepBy (r .device .reading) c + timeOf (readingBy (r .device .reading) c) rest) = rw (v .reading) (omega arith) in
+    let m = many r' (callOf r area c .area) rest n H (s + stepBy (r .device .reading) c) (v .watched) b (rw e l) in
+    record { watched = rw e at (m .watched); locks = λ at h. m .locks at (v .locks at h) }
+
+-- the tick that closes, and what it frees
+record Opens (r : Record) (area : List ℕ) (calls : List (Call Ask (List ℕ))) (reading n : ℕ) : Type 0 where
+  shuts : Closes (callsOf r area calls .0) (callsOf r area calls .1) reading n
+  frees : (k at : ℕ) → at < 8 → getD (r .device .holders) at 0 ≡ n + 1 → lockStatus (callsOf r area (calls ++ (ask (ticking reading) ∷ [])) .0 .device) k at ≡ 0
+
+first : (r : Record) (area : List ℕ) (calls : List (Call Ask (List ℕ))) (reading n H s : ℕ) → Watched (r .device) n H s → allSilent n r area (calls ++ (ask (ticking reading) ∷ [])) ≡ true
+    → s + timeOf (r .device .reading) calls < 3 * H → 3 * H ≤ s + timeOf (r .device .reading) (calls ++ (ask (ticking reading) ∷ [])) → Opens r area calls reading n
+unfolding callsOf allSilent timeOf isSilent stepBy callOf
+first r area [] y n H s w p l u =
+    let a = and-left (passes r area y) _ p in
+    record { shuts = shutting r area y a n H s w (omega arith); frees = letting r area y a n H s w (omega arith) }
+first r area (c ∷ rest) y n H s w p l u =
+    let a = and-left (isSilent n r area c) _ p in
+    let b = and-right (isSilent n r area c) _ p in
+    let r' = callOf r area c .state in
+    let v = one r area c n H s a w (omega arith) in
+    let e : s + stepBy (r .device .reading) c + timeOf (r' .device .reading) rest ≡ s + (stepBy (r .device .reading) c + timeOf (readingBy (r .device .reading) c) rest) = rw (v .reading) (omega arith) in
+    let f : s + stepBy (r .device .reading) c + timeOf (r' .device .reading) (rest ++ (ask (ticking y) ∷ [])) ≡ s + (stepBy (r .device .reading) c + timeOf (readingBy (r .device .reading) c) (rest ++ (ask (ticking y) ∷ []))) = rw (v .reading) (omega arith) in
+    let m = first r' (callOf r area c .area) rest y n H (s + stepBy (r .device .reading) c) (v .watched) b (rw e l) (rw f u) in
+    record { shuts = m .shuts; frees = λ k at h z. m .frees k at h (v .locks at z) }
+
+-- ---- refusals
 module _ (r : Record) (area : List ℕ) (reading : ℕ) (o : recordObeys r ≡ true) (a : areaSound (r .held) area ≡ true) where
   passing : stepAt r reading ≤ 2147483647 → passes r area reading ≡ true
   unfolding passes tickCall tickBy tickedBy
@@ -557,14 +604,11 @@ technician-let-in =
       letIn = λ r area x n H s w p. letting r area x p n H s w;
       never = λ r area x n H s w p. leaving r area x p n H s w;
       unwatched = unwatched;
-      many = many;
-      lockedOut = λ r area readings n H s w p l k at e h q.
-          locked-out _ n k at e h (lock-kept n at (r .device) _ (many r area readings n H s w p l .1) q);
+      many = λ r area calls n H s w p l. many r area calls n H s w p l .watched;
+      lockedOut = λ r area calls n H s w p l k at e h q. locked-out _ n k at e h (many r area calls n H s w p l .locks at q);
       first = λ r area readings x n H s w p l u. first r area readings x n H s w p l u .shuts;
       firstLetIn = λ r area readings x n H s w p l u. first r area readings x n H s w p l u .frees;
       halfMessage = half;
-      meanwhile = meanwhile;
-      lockStays = λ r area c n at a l. call-same r area c n a l .locks at;
       passing = passing;
       refusing = refusing;
       thirtySeconds = exactly 30000 89999 90000 (omega arith) (omega arith);

@@ -3,11 +3,11 @@
 -- 3 × H or more the connection is closed", and "A closure frees the connection's locks".
 use Prim.Native.Nat.{ℕ, _+_, _*_, _<_, _≤_}
 use mathlib.Core.Path.{_≡_}
-use mathlib.Core.Bool.{Bool, true, false, not, _&&_}
+use mathlib.Core.Bool.{Bool, true, false, not, _&&_, _||_}
 use mathlib.Core.List.{List, [], _∷_, _++_}
 use lib.Dec.{eqb}
 use lib.ListN.{length, getD}
-use Rattle.frame.specs.Decide.{decide}
+use Rattle.frame.specs.Decide.{decide, settled}
 use Rattle.frame.specs.declared.Decision.the-variants.{Undecided}
 use Rattle.area.specs.Area.{areaSound, undecidedOf}
 use Rattle.connection.specs.State.{closed, liveAt}
@@ -63,33 +63,44 @@ pub record Leaves (r : Record) (area : List ℕ) (reading n H silence : ℕ) : T
 abbrev pub lockStatus : Device → ℕ → ℕ → ℕ
 lockStatus d k at = runOf d k (firstMute + at) lockMethod 0 [] .answer .status
 
--- ---- ticks one after another
+-- ---- calls one after another
 
--- the record and the area after ticks at these readings, with no other call between
-unfoldable pub ticksCall : Record → List ℕ → List ℕ → Record × List ℕ
-ticksCall r area [] = (r, area)
-ticksCall r area (reading ∷ rest) = ticksCall (tickCall r area reading .state) (tickCall r area reading .area) rest
+-- by this call connection n neither says a whole message nor is closed by the host: a tick that is not refused, bytes of its own that
+-- decide nothing, another's bytes or close, an opening, a taking
+unfoldable pub isSilent : ℕ → Record → List ℕ → Call Ask (List ℕ) → Bool
+isSilent n r area (deliver k piece out) = not (eqb k n) || not (settled (decide (undecidedOf area k (heldAt r k) ++ piece)))
+isSilent n r area (ask opening) = true
+isSilent n r area (ask (closing k)) = not (eqb k n)
+isSilent n r area (ask (ticking reading)) = passes r area reading
+isSilent n r area (ask (taking out)) = true
 
--- none of them is refused
-unfoldable pub allPass : Record → List ℕ → List ℕ → Bool
-allPass r area [] = true
-allPass r area (reading ∷ rest) =
-    passes r area reading && allPass (tickCall r area reading .state) (tickCall r area reading .area) rest
+-- the record and the area after these calls, and that connection n is silent in all of them
+unfoldable pub callsOf : Record → List ℕ → List (Call Ask (List ℕ)) → Record × List ℕ
+callsOf r area [] = (r, area)
+callsOf r area (c ∷ rest) = callsOf (callOf r area c .state) (callOf r area c .area) rest
 
--- the sum of their steps, from the last reading on
-unfoldable pub timeOf : ℕ → List ℕ → ℕ
+unfoldable pub allSilent : ℕ → Record → List ℕ → List (Call Ask (List ℕ)) → Bool
+allSilent n r area [] = true
+allSilent n r area (c ∷ rest) = isSilent n r area c && allSilent n (callOf r area c .state) (callOf r area c .area) rest
+
+-- "Only a tick brings time": the reading after a call, the step of a call, and the sum of the steps from a last reading on
+unfoldable pub readingBy : ℕ → Call Ask (List ℕ) → ℕ
+readingBy last (deliver k piece out) = last
+readingBy last (ask opening) = last
+readingBy last (ask (closing k)) = last
+readingBy last (ask (ticking reading)) = reading
+readingBy last (ask (taking out)) = last
+
+unfoldable pub stepBy : ℕ → Call Ask (List ℕ) → ℕ
+stepBy last (deliver k piece out) = 0
+stepBy last (ask opening) = 0
+stepBy last (ask (closing k)) = 0
+stepBy last (ask (ticking reading)) = stepOf reading last
+stepBy last (ask (taking out)) = 0
+
+unfoldable pub timeOf : ℕ → List (Call Ask (List ℕ)) → ℕ
 timeOf last [] = 0
-timeOf last (reading ∷ rest) = stepOf reading last + timeOf reading rest
-
--- ---- other calls
-
--- a call that is no tick and neither brings bytes of connection n nor closes it
-unfoldable pub isApart : ℕ → Call Ask (List ℕ) → Bool
-isApart n (deliver k piece out) = not (eqb k n)
-isApart n (ask opening) = true
-isApart n (ask (closing k)) = not (eqb k n)
-isApart n (ask (ticking reading)) = false
-isApart n (ask (taking out)) = true
+timeOf last (c ∷ rest) = stepBy last c + timeOf (readingBy last c) rest
 
 -- ---- with numbers
 
@@ -107,19 +118,16 @@ pub record TechnicianLetIn : Type 0 where
   pub never : (r : Record) (area : List ℕ) (reading n H silence : ℕ) → Watched (r .device) n H silence → passes r area reading ≡ true → silence + stepAt r reading < 3 * H → Leaves r area reading n H (silence + stepAt r reading)
   -- a tablet that set no heartbeat, or heartbeat zero, is closed by no tick: it keeps its locks until it is closed otherwise
   pub unwatched : (r : Record) (area : List ℕ) (reading : ℕ) → passes r area reading ≡ true → (n : ℕ) → liveAt (r .device .connections) n ≡ true → getD (r .device .connections) n closed .beat ≡ 0 → Stays n (r .device) (tickCall r area reading .state .device)
-  -- tick after tick, the silence is the sum of the steps as long as that is below three heartbeats
-  pub many : (r : Record) (area readings : List ℕ) (n H silence : ℕ) → Watched (r .device) n H silence → allPass r area readings ≡ true → silence + timeOf (r .device .reading) readings < 3 * H → Watched (ticksCall r area readings .0 .device) n H (silence + timeOf (r .device .reading) readings) × Stays n (r .device) (ticksCall r area readings .0 .device)
-  -- all that while another's lock of what the tablet holds gets status 3
-  pub lockedOut : (r : Record) (area readings : List ℕ) (n H silence : ℕ) → Watched (r .device) n H silence → allPass r area readings ≡ true → silence + timeOf (r .device .reading) readings < 3 * H → (k at : ℕ) → eqb k n ≡ false → at < muteCount → getD (r .device .holders) at 0 ≡ n + 1 → lockStatus (ticksCall r area readings .0 .device) k at ≡ 3
+  -- call after call, whatever others do, the silence is the sum of the steps as long as that is below three heartbeats
+  pub many : (r : Record) (area : List ℕ) (calls : List (Call Ask (List ℕ))) (n H silence : ℕ) → Watched (r .device) n H silence → allSilent n r area calls ≡ true → silence + timeOf (r .device .reading) calls < 3 * H → Watched (callsOf r area calls .0 .device) n H (silence + timeOf (r .device .reading) calls)
+  -- all that while what the tablet held it holds, and another's lock of it gets status 3
+  pub lockedOut : (r : Record) (area : List ℕ) (calls : List (Call Ask (List ℕ))) (n H silence : ℕ) → Watched (r .device) n H silence → allSilent n r area calls ≡ true → silence + timeOf (r .device .reading) calls < 3 * H → (k at : ℕ) → eqb k n ≡ false → at < muteCount → getD (r .device .holders) at 0 ≡ n + 1 → lockStatus (callsOf r area calls .0 .device) k at ≡ 3
   -- the first tick at which the sum reaches three heartbeats closes it
-  pub first : (r : Record) (area readings : List ℕ) (reading n H silence : ℕ) → Watched (r .device) n H silence → allPass r area (readings ++ (reading ∷ [])) ≡ true → silence + timeOf (r .device .reading) readings < 3 * H → 3 * H ≤ silence + timeOf (r .device .reading) (readings ++ (reading ∷ [])) → Closes (ticksCall r area readings .0) (ticksCall r area readings .1) reading n
+  pub first : (r : Record) (area : List ℕ) (calls : List (Call Ask (List ℕ))) (reading n H silence : ℕ) → Watched (r .device) n H silence → allSilent n r area (calls ++ (ask (ticking reading) ∷ [])) ≡ true → silence + timeOf (r .device .reading) calls < 3 * H → 3 * H ≤ silence + timeOf (r .device .reading) (calls ++ (ask (ticking reading) ∷ [])) → Closes (callsOf r area calls .0) (callsOf r area calls .1) reading n
   -- and lets the technician in
-  pub firstLetIn : (r : Record) (area readings : List ℕ) (reading n H silence : ℕ) → Watched (r .device) n H silence → allPass r area (readings ++ (reading ∷ [])) ≡ true → silence + timeOf (r .device .reading) readings < 3 * H → 3 * H ≤ silence + timeOf (r .device .reading) (readings ++ (reading ∷ [])) → (k at : ℕ) → at < muteCount → getD (r .device .holders) at 0 ≡ n + 1 → lockStatus (ticksCall r area (readings ++ (reading ∷ [])) .0 .device) k at ≡ 0
+  pub firstLetIn : (r : Record) (area : List ℕ) (calls : List (Call Ask (List ℕ))) (reading n H silence : ℕ) → Watched (r .device) n H silence → allSilent n r area (calls ++ (ask (ticking reading) ∷ [])) ≡ true → silence + timeOf (r .device .reading) calls < 3 * H → 3 * H ≤ silence + timeOf (r .device .reading) (calls ++ (ask (ticking reading) ∷ [])) → (k at : ℕ) → at < muteCount → getD (r .device .holders) at 0 ≡ n + 1 → lockStatus (callsOf r area (calls ++ (ask (ticking reading) ∷ [])) .0 .device) k at ≡ 0
   -- half a message changes neither silence nor lock: bytes that decide nothing leave the device as it is
   pub halfMessage : (r : Record) (area : List ℕ) (n : ℕ) (piece out : List ℕ) → decide (undecidedOf area n (heldAt r n) ++ piece) ≡ Undecided → deliverCall r area n piece out .state .device ≡ r .device
-  -- nor does what others do meanwhile: their messages, faults and closes, an opening, and whatever the device sends
-  pub meanwhile : (r : Record) (area : List ℕ) (c : Call Ask (List ℕ)) (n H silence : ℕ) → isApart n c ≡ true → Watched (r .device) n H silence → Watched (callOf r area c .state .device) n H silence
-  pub lockStays : (r : Record) (area : List ℕ) (c : Call Ask (List ℕ)) (n at : ℕ) → isApart n c ≡ true → liveAt (r .device .connections) n ≡ true → getD (r .device .holders) at 0 ≡ n + 1 → getD (callOf r area c .state .device .holders) at 0 ≡ n + 1
   -- a sound record and area refuse a tick only by its step
   pub passing : (r : Record) (area : List ℕ) (reading : ℕ) → recordObeys r ≡ true → areaSound (r .held) area ≡ true → stepAt r reading ≤ 2147483647 → passes r area reading ≡ true
   pub refusing : (r : Record) (area : List ℕ) (reading : ℕ) → recordObeys r ≡ true → areaSound (r .held) area ≡ true → 2147483648 ≤ stepAt r reading → tickCall r area reading ≡ refused clockBack r area []
