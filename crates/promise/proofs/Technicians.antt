@@ -1,4 +1,4 @@
--- When a tick closes a connection, and when not. Assumes nothing.
+-- When a tick closes a connection, and when not; what calls of others leave it. Assumes nothing.
 use Prim.Native.Nat.{ℕ, zero, suc, _+_, _*_, _^_, _<_, _≤_}
 use mathlib.Core.Path.{_≡_, refl, sym, ap, _∙_}
 use mathlib.Core.Bool.{Bool, cond, true, false, not, _&&_, _||_}
@@ -213,9 +213,6 @@ module _ (r : Record) (area : List ℕ) (reading : ℕ) (p : passes r area readi
         }
 
 -- ---- what a connection holds while it stays
-stays-on : (n : ℕ) (d e f : Device) → Stays n d e → Stays n e f → Stays n d f
-stays-on n d e f a b = record { live = b .live; locks = b .locks ∙ a .locks; entries = b .entries ∙ a .entries }
-
 lock-kept : (n at : ℕ) (d e : Device) → Stays n d e → getD (d .holders) at 0 ≡ n + 1 → getD (e .holders) at 0 ≡ n + 1
 unfolding locksOf isLockOf
 lock-kept n at d e a h = find (getD (e .holders) at 0) (eqb (getD (e .holders) at 0) (n + 1)) refl same
@@ -579,15 +576,15 @@ first r area (c ∷ rest) y n H s w p l u =
 
 -- ---- refusals
 module _ (r : Record) (area : List ℕ) (reading : ℕ) (o : recordObeys r ≡ true) (a : areaSound (r .held) area ≡ true) where
-  passing : stepAt r reading ≤ 2147483647 → passes r area reading ≡ true
+  passing : stepAt r reading < 2 ^ 31 → passes r area reading ≡ true
   unfolding passes tickCall tickBy tickedBy
   passing h =
-      let e = lt-leb (2 ^ 31) (stepAt r reading) (omega arith) in
+      let e = lt-leb (2 ^ 31) (stepAt r reading) h in
       rw (o, a, e, rules-kept .fitting (r .device) reading (device-obeys r o) e)
 
-  refusing : 2147483648 ≤ stepAt r reading → tickCall r area reading ≡ refused clockBack r area []
+  refusing : 2 ^ 31 ≤ stepAt r reading → tickCall r area reading ≡ refused clockBack r area []
   unfolding tickCall tickBy tickedBy
-  refusing h = rw (o, a, le-leb (2 ^ 31) (stepAt r reading) (omega arith))
+  refusing h = rw (o, a, le-leb (2 ^ 31) (stepAt r reading) h)
 
 -- ---- with numbers
 exactly : (H last next : ℕ) → last < 3 * H → 3 * H ≤ next → Exactly H last next

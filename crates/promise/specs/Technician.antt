@@ -1,7 +1,7 @@
 -- "Channel 5 says it is locked by a tablet that has been switched off. When does your amplifier let me in?"
 -- Document 01 'Time and supervision': "While the heartbeat H (in milliseconds) is above zero, a tick adds the step to silence; at
 -- 3 × H or more the connection is closed", and "A closure frees the connection's locks".
-use Prim.Native.Nat.{ℕ, _+_, _*_, _<_, _≤_}
+use Prim.Native.Nat.{ℕ, _+_, _*_, _^_, _<_, _≤_}
 use mathlib.Core.Path.{_≡_}
 use mathlib.Core.Bool.{Bool, true, false, not, _&&_, _||_}
 use mathlib.Core.List.{List, [], _∷_, _++_}
@@ -112,11 +112,11 @@ pub record Exactly (H last next : ℕ) : Type 0 where
 pub record TechnicianLetIn : Type 0 where
   -- the tick at which the silence reaches three heartbeats closes the tablet's connection
   pub closes : (r : Record) (area : List ℕ) (reading n H silence : ℕ) → Watched (r .device) n H silence → passes r area reading ≡ true → 3 * H ≤ silence + stepAt r reading → Closes r area reading n
-  -- and from then on whoever asks for a lock that the tablet held gets it
+  -- and whoever then asks first for a lock that the tablet held gets it
   pub letIn : (r : Record) (area : List ℕ) (reading n H silence : ℕ) → Watched (r .device) n H silence → passes r area reading ≡ true → 3 * H ≤ silence + stepAt r reading → (k at : ℕ) → at < muteCount → getD (r .device .holders) at 0 ≡ n + 1 → lockStatus (tickCall r area reading .state .device) k at ≡ 0
   -- no tick closes it before: the silence is the silence that was, and the step
   pub never : (r : Record) (area : List ℕ) (reading n H silence : ℕ) → Watched (r .device) n H silence → passes r area reading ≡ true → silence + stepAt r reading < 3 * H → Leaves r area reading n H (silence + stepAt r reading)
-  -- a tablet that set no heartbeat, or heartbeat zero, is closed by no tick: it keeps its locks until it is closed otherwise
+  -- a tablet that set no heartbeat, or heartbeat zero, is closed by no tick, and no tick takes its locks
   pub unwatched : (r : Record) (area : List ℕ) (reading : ℕ) → passes r area reading ≡ true → (n : ℕ) → liveAt (r .device .connections) n ≡ true → getD (r .device .connections) n closed .beat ≡ 0 → Stays n (r .device) (tickCall r area reading .state .device)
   -- call after call, whatever others do, the silence is the sum of the steps as long as that is below three heartbeats
   pub many : (r : Record) (area : List ℕ) (calls : List (Call Ask (List ℕ))) (n H silence : ℕ) → Watched (r .device) n H silence → allSilent n r area calls ≡ true → silence + timeOf (r .device .reading) calls < 3 * H → Watched (callsOf r area calls .0 .device) n H (silence + timeOf (r .device .reading) calls)
@@ -128,9 +128,9 @@ pub record TechnicianLetIn : Type 0 where
   pub firstLetIn : (r : Record) (area : List ℕ) (calls : List (Call Ask (List ℕ))) (reading n H silence : ℕ) → Watched (r .device) n H silence → allSilent n r area (calls ++ (ask (ticking reading) ∷ [])) ≡ true → silence + timeOf (r .device .reading) calls < 3 * H → 3 * H ≤ silence + timeOf (r .device .reading) (calls ++ (ask (ticking reading) ∷ [])) → (k at : ℕ) → at < muteCount → getD (r .device .holders) at 0 ≡ n + 1 → lockStatus (callsOf r area (calls ++ (ask (ticking reading) ∷ [])) .0 .device) k at ≡ 0
   -- half a message changes neither silence nor lock: bytes that decide nothing leave the device as it is
   pub halfMessage : (r : Record) (area : List ℕ) (n : ℕ) (piece out : List ℕ) → decide (undecidedOf area n (heldAt r n) ++ piece) ≡ Undecided → deliverCall r area n piece out .state .device ≡ r .device
-  -- a sound record and area refuse a tick only by its step
-  pub passing : (r : Record) (area : List ℕ) (reading : ℕ) → recordObeys r ≡ true → areaSound (r .held) area ≡ true → stepAt r reading ≤ 2147483647 → passes r area reading ≡ true
-  pub refusing : (r : Record) (area : List ℕ) (reading : ℕ) → recordObeys r ≡ true → areaSound (r .held) area ≡ true → 2147483648 ≤ stepAt r reading → tickCall r area reading ≡ refused clockBack r area []
+  -- a record and an area that rows 1 and 2 let pass: a step of 2^31 − 1 passes, and one of 2^31 is refused
+  pub passing : (r : Record) (area : List ℕ) (reading : ℕ) → recordObeys r ≡ true → areaSound (r .held) area ≡ true → stepAt r reading < 2 ^ 31 → passes r area reading ≡ true
+  pub refusing : (r : Record) (area : List ℕ) (reading : ℕ) → recordObeys r ≡ true → areaSound (r .held) area ≡ true → 2 ^ 31 ≤ stepAt r reading → tickCall r area reading ≡ refused clockBack r area []
   -- a heartbeat of 30 s; of 2 s; the greatest in seconds; the greatest in milliseconds
   pub thirtySeconds : Exactly 30000 89999 90000
   pub twoSeconds : Exactly 2000 5999 6000
