@@ -183,7 +183,7 @@ impl Record {
     }
 
     // The host's close.
-    pub fn close(self, area: &mut [u8], n: u8) -> Closed
+    pub fn close(mut self, area: &mut [u8], n: u8) -> Closed
         ensures { λ r. ⌜ outcome (closingNumbers (r .answer)) (r .state) (now (area .exit)) [] ≡ closeCall self (now (area .entry)) n ⌝ }
     {
         if !self.obeys() {
@@ -208,8 +208,9 @@ impl Record {
             };
         }
         area::clear_part(area, n as usize);
+        self = self.closed(n);
         Closed {
-            state: self.closed(n),
+            state: self,
             answer: Closing::Done,
         }
     }
