@@ -113,24 +113,22 @@ module _ (d : Device) (h : Held) (good : GoodAt d h) where
       go false true = length-map (d .connections) (tickedOf (stepOf reading (d .reading))) ∙ good .fine .eight
       go false false = good .fine .eight
 
+  -- whoever is then not open has no count and no byte
+  pub ticked-counts : (reading : ℕ) → heldKept (livesIn (tickOf d reading .device)) (counted h 8) ≡ counted (only (open? (tickOf d reading .device)) h) 8
+  ticked-counts reading = rw (← lives-eight (tickOf d reading .device) (length-ticked reading)) (held-counted (open? (tickOf d reading .device)) h 8)
+
+  pub ticked-area : (reading : ℕ) → closedCleared (livesIn (tickOf d reading .device)) (flat h 8) ≡ flat (only (open? (tickOf d reading .device)) h) 8
+  ticked-area reading = rw (← lives-eight (tickOf d reading .device) (length-ticked reading)) (closed-flat (open? (tickOf d reading .device)) h 8 (small d h good))
+
   pub tick-told : (reading : ℕ) → Told d h (ask (ticking reading))
   unfolding callOf tickCall step whole rule toldOf tickedBy rules.tickBy
   tick-told reading = rw (record-obeys d h good, area-sound d h good) (go (tickOf d reading .answer))
     where
-      e : Device
-      e = tickOf d reading .device
-
-      kept : heldKept (livesIn (tickOf d reading .device)) (counted h 8) ≡ counted (only (open? (tickOf d reading .device)) h) 8
-      kept = rw (← lives-eight (tickOf d reading .device) (length-ticked reading)) (held-counted (open? (tickOf d reading .device)) h 8)
-
-      cleared : closedCleared (livesIn (tickOf d reading .device)) (flat h 8) ≡ flat (only (open? (tickOf d reading .device)) h) 8
-      cleared = rw (← lives-eight (tickOf d reading .device) (length-ticked reading)) (closed-flat (open? (tickOf d reading .device)) h 8 (small d h good))
-
       go : (x : Ticking)
           → let s = rules.tickBy x d (tickOf d reading .device) in
           tickedBy x (stateOf d (counted h 8)) (tickOf d reading) (flat h 8)
           ≡ outcome (s .1 .answer) (stateOf (s .0) (counted (only (open? (s .0)) h) 8)) (flat (only (open? (s .0)) h) 8) (s .1 .output)
-      go (ticks.Closed m) = rw (kept, cleared)
+      go (ticks.Closed m) = rw (ticked-counts reading, ticked-area reading)
       go ticks.ClockBack = rw same
       go ticks.Overrun = rw same
 

@@ -148,11 +148,23 @@ bit-half : (m : ℕ) (b : Bool) → (cond b 1 0 + 2 * m) / 2 ≡ m
 bit-half m true = omega arith
 bit-half m false = omega arith
 
-mask-bit : {A : Type 0} (p : A → Bool) (l : List A) (k : ℕ) (z : A) → k < length l → bitOf (mask p l) k ≡ p (getD l k z)
+pub mask-bit : {A : Type 0} (p : A → Bool) (l : List A) (k : ℕ) (z : A) → k < length l → bitOf (mask p l) k ≡ p (getD l k z)
 unfolding bitOf
 mask-bit p [] k z h = absurd (not-suc-le-zero h)
 mask-bit p (x ∷ l) zero z h = bit-low (mask p l) (p x)
 mask-bit p (x ∷ l) (suc k) z h = rw (bit-half (mask p l) (p x)) (mask-bit p l k z (le-of-suc-le-suc h))
+
+-- no bit behind the last element
+none-bit : (k : ℕ) → bitOf 0 k ≡ false
+unfolding bitOf
+none-bit zero = refl
+none-bit (suc k) = none-bit k
+
+pub mask-beyond : {A : Type 0} (p : A → Bool) (l : List A) (k : ℕ) → length l ≤ k → bitOf (mask p l) k ≡ false
+unfolding bitOf
+mask-beyond p [] k h = none-bit k
+mask-beyond p (x ∷ l) zero h = absurd (not-suc-le-zero h)
+mask-beyond p (x ∷ l) (suc k) h = rw (bit-half (mask p l) (p x)) (mask-beyond p l k (le-of-suc-le-suc h))
 
 -- a tick that is not refused
 closed-shape : (d : Device) (reading step m : ℕ) → tickBy d reading step .answer ≡ ticks.Closed m

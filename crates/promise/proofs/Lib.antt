@@ -5,3 +5,4 @@ pub mod Laws
 pub mod Lents
 pub mod Keeps
 pub mod Technicians
+pub mod Closing

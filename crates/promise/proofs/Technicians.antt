@@ -63,25 +63,25 @@ use Rattle.promise.proofs.Laws.{device-laws}
 -- ---- a tick that is not refused
 
 -- whom it closes
-abbrev maskAt : Record → ℕ → ℕ
+abbrev pub maskAt : Record → ℕ → ℕ
 maskAt r reading = mask (closesAt (stepAt r reading)) (r .device .connections)
 
 -- rows 6 and 7 do not apply
-record Timely (r : Record) (reading : ℕ) : Type 0 where
-  early : leb (2 ^ 31) (stepAt r reading) ≡ false
-  fits : all (fitsStep (stepAt r reading)) (r .device .connections) ≡ true
+pub record Timely (r : Record) (reading : ℕ) : Type 0 where
+  pub early : leb (2 ^ 31) (stepAt r reading) ≡ false
+  pub fits : all (fitsStep (stepAt r reading)) (r .device .connections) ≡ true
 
 -- what it gives
-record Ticks (r : Record) (area : List ℕ) (reading : ℕ) : Type 0 where
-  obeys : deviceObeys (r .device) ≡ true
-  timely : Timely r reading
-  given : tickCall r area reading ≡ tickedBy (ticks.Closed (maskAt r reading)) r (tickOf (r .device) reading) area
+pub record Ticks (r : Record) (area : List ℕ) (reading : ℕ) : Type 0 where
+  pub obeys : deviceObeys (r .device) ≡ true
+  pub timely : Timely r reading
+  pub given : tickCall r area reading ≡ tickedBy (ticks.Closed (maskAt r reading)) r (tickOf (r .device) reading) area
 
 device-obeys : (r : Record) → recordObeys r ≡ true → deviceObeys (r .device) ≡ true
 unfolding recordObeys
 device-obeys r o = and-left (deviceObeys (r .device)) _ o
 
-passed : (r : Record) (area : List ℕ) (reading : ℕ) → passes r area reading ≡ true → Ticks r area reading
+pub passed : (r : Record) (area : List ℕ) (reading : ℕ) → passes r area reading ≡ true → Ticks r area reading
 unfolding passes tickCall tickBy tickedBy
 passed r area reading p =
     go (recordObeys r) refl (areaSound (r .held) area) refl (leb (2 ^ 31) (stepAt r reading)) refl
@@ -107,13 +107,13 @@ held-none (b ∷ lives) (k ∷ held) zero h e = rw e
 held-none (b ∷ lives) (k ∷ held) (suc n) h e = held-none lives held n (le-of-suc-le-suc h) e
 
 -- connection n after a tick
-ticked-at : (r : Record) (reading n : ℕ) → Timely r reading
+pub ticked-at : (r : Record) (reading n : ℕ) → Timely r reading
     → getD (tickOf (r .device) reading .device .connections) n closed ≡ tickedOf (stepAt r reading) (getD (r .device .connections) n closed)
 unfolding tickBy sweepOf tickedOf
 ticked-at r reading n t = rw (t .early, t .fits) (List·getD-map (tickedOf (stepAt r reading)) (r .device .connections) n closed)
 
 -- no step closes a connection without a heartbeat
-never-idle : (step : ℕ) (c : Connection) → c .beat ≡ 0 → closesAt step c ≡ false
+pub never-idle : (step : ℕ) (c : Connection) → c .beat ≡ 0 → closesAt step c ≡ false
 unfolding closesAt
 never-idle step c z = rw (eq-eqb (c .beat) 0 z)
 

@@ -3,3 +3,4 @@ pub mod Kept
 pub mod Stream
 pub mod Examples
 pub mod Technician
+pub mod Closure

@@ -3,6 +3,7 @@ ghost use Rattle.promise.specs.Kept.{CallsKeep};
 ghost use Rattle.promise.specs.Stream.{StreamTheorem, CuttingDoesNotMatter, MixingDoesNotMatter};
 ghost use Rattle.promise.specs.Examples.{ExamplesWorked};
 ghost use Rattle.promise.specs.Technician.{TechnicianLetIn};
+ghost use Rattle.promise.specs.Closure.{ClosureLeavesNothing};
 
 // Every call keeps the record rules and the area, so refusals 1 and 2 never come in a run.
 pub fn calls_keep()
@@ -30,4 +31,9 @@ pub fn examples_worked()
 // When a lock of a connection that has gone silent can be taken.
 pub fn technician_let_in()
     ensures { λ _. ⌜ TechnicianLetIn ⌝ }
+{}
+
+// At a closure nothing of that connection is left, and nothing of the others is touched.
+pub fn closure_leaves_nothing()
+    ensures { λ _. ⌜ ClosureLeavesNothing ⌝ }
 {}

@@ -1,0 +1,60 @@
+-- "At a closure nothing of that connection is left, and the locks, subscriptions, waiting notifications and undecided bytes of every
+-- other open connection are unchanged." "A reused number starts as newly opened."
+use Prim.Native.Nat.{ℕ}
+use mathlib.Core.Path.{_≡_}
+use mathlib.Core.Bool.{true, false}
+use mathlib.Core.List.{List, [], _∷_}
+use lib.Dec.{eqb}
+use lib.ListN.{getD, take, drop}
+use Rattle.octets.specs.Zeros.{zeros}
+use Rattle.area.specs.Area.{partBytes, partAt}
+use Rattle.connection.specs.State.{closed, opened, liveAt}
+use Rattle.device.specs.Closure.{locksOf, entriesOf, noLocks, noEntries, Gone, Stays}
+use Rattle.endpoint.specs.Numbers.{Outcome}
+use Rattle.endpoint.specs.Calls.{openCall, closeCall, tickCall}
+use Rattle.endpoint.specs.Deliver.{heldAt, deliverCall}
+use Rattle.endpoint.specs.declared.Record.{Record}
+use Rattle.promise.specs.Rules.{bitOf}
+use Rattle.promise.specs.Kept.{Kept}
+
+-- connection n's part of the area
+unfoldable pub partIn : List ℕ → ℕ → List ℕ
+partIn area n = take partBytes (drop (partAt n) area)
+
+-- nothing of connection n is left in r' and its area, which came of r: it is closed and all zero, no lock, entry or mark is its own,
+-- its count is 0 and its part zeros
+pub record Left (n : ℕ) (r r' : Record) (area' : List ℕ) : Type 0 where
+  pub gone : Gone n (r .device) (r' .device)
+  pub blank : getD (r' .device .connections) n closed ≡ closed
+  pub count : heldAt r' n ≡ 0
+  pub bytes : partIn area' n ≡ zeros partBytes
+
+-- connection k is open, with its locks, entries, marks, count and part as they were
+pub record Unmoved (k : ℕ) (r : Record) (area : List ℕ) (r' : Record) (area' : List ℕ) : Type 0 where
+  pub stays : Stays k (r .device) (r' .device)
+  pub count : heldAt r' k ≡ heldAt r k
+  pub bytes : partIn area' k ≡ partIn area k
+
+-- a call that closed connection n alone
+pub record Closed (n : ℕ) (r : Record) (area : List ℕ) (o : Outcome) : Type 0 where
+  pub left : Left n r (o .state) (o .area)
+  pub others : (k : ℕ) → eqb k n ≡ false → liveAt (r .device .connections) k ≡ true → Unmoved k r area (o .state) (o .area)
+  -- of the others, silence, quiet and heartbeat too
+  pub supervised : (k : ℕ) → eqb k n ≡ false → getD (o .state .device .connections) k closed ≡ getD (r .device .connections) k closed
+
+-- connection n is newly opened: all counts zero, no lock, no entry, no byte
+pub record New (n : ℕ) (r r' : Record) (area : List ℕ) : Type 0 where
+  pub connection : getD (r' .device .connections) n closed ≡ opened
+  pub locks : locksOf n (r' .device) ≡ noLocks (r .device)
+  pub entries : entriesOf n (r' .device) ≡ noEntries (r .device)
+  pub count : heldAt r' n ≡ 0
+  pub bytes : partIn area n ≡ zeros partBytes
+
+pub record ClosureLeavesNothing : Type 0 where
+  -- the host's close
+  pub byHost : (r : Record) (area : List ℕ) (n : ℕ) → Kept r area → closeCall r area n .answer ≡ 0 ∷ [] → Closed n r area (closeCall r area n)
+  -- a fault in the bytes delivered
+  pub byFault : (r : Record) (area : List ℕ) (n : ℕ) (piece out : List ℕ) (taken fault : ℕ) → Kept r area → deliverCall r area n piece out .answer ≡ 0 ∷ 3 ∷ taken ∷ fault ∷ [] → Closed n r area (deliverCall r area n piece out)
+  -- a tick: whoever's bit is set, and whoever's is not
+  pub byTick : (r : Record) (area : List ℕ) (reading mask : ℕ) → Kept r area → tickCall r area reading .answer ≡ 0 ∷ mask ∷ [] → (n : ℕ) → bitOf mask n ≡ true → Left n r (tickCall r area reading .state) (tickCall r area reading .area)
+  pub byTickOthers : (r : Record) (area : List ℕ) (reading mask : ℕ) → Kept r area → tickCall r area reading .answer ≡ 0 ∷ mask ∷ [] → (k : ℕ) → bitOf mask k ≡ false → liveAt (r .device .connections) k ≡ true → Unmoved k r area (tickCall r area reading .state) (tickCall r area reading .area)
