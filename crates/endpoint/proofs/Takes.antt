@@ -85,7 +85,7 @@ module _ (r : Record) (o : recordObeys r ≡ true) where
       waiting-mute cs (entryAt (r .device) i) e w
 
 -- ---- what is found
-index-meets : {A : Type 0} (p : A → Bool) (l : List A) (a : A) → index p l < length l → p (getD l (index p l) a) ≡ true
+pub index-meets : {A : Type 0} (p : A → Bool) (l : List A) (a : A) → index p l < length l → p (getD l (index p l) a) ≡ true
 index-meets p [] a h = absurd (not-suc-le-zero h)
 index-meets {A} p (x ∷ l) a h = go (p x) refl h (λ k. index-meets p l a k)
   where

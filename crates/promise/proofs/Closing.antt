@@ -1,47 +1,64 @@
 -- What a closure leaves of its connection, and what of the others. Assumes nothing.
-use Prim.Native.Nat.{ℕ, _≤_, _<_}
+use Prim.Native.Nat.{ℕ, _+_, _-_, _≤_, _<_}
 use mathlib.Core.Path.{_≡_, refl, sym, ap, _∙_}
-use mathlib.Core.Bool.{Bool, cond, true, false, not}
+use mathlib.Core.Logic.{⊎-elim}
+use mathlib.Core.Bool.{Bool, cond, true, false, _&&_, and-false}
 use mathlib.Core.List.{List, [], _∷_, _++_}
 use native.Mathlib.Omega.{arith}
 use lib.Dec.{eqb, ltb}
 use lib.ListN.{length, getD, set}
 use lib.Seq.{getD-set-same}
-use borrow.Author.Tests.{eqb-true, eqb-false, eq-eqb, ltb-true, ltb-false}
-use Rattle.laws.proofs.Tables.{clash}
+use borrow.Author.Tests.{eqb-true, eqb-false, eq-eqb, ne-eqb, not-true, ltb-true, ltb-false}
+use Rattle.laws.specs.Lists.{any}
+use Rattle.laws.proofs.Conds.{and-left}
+use Rattle.laws.proofs.Tables.{clash, any-index, map-all}
 use Rattle.octets.specs.Zeros.{zeros}
 use Rattle.frame.specs.Decide.{decide}
 use Rattle.frame.specs.declared.Decision.{Decision}
 use Rattle.frame.specs.declared.Decision.the-variants.{Undecided, Faulty, Sound}
 use Rattle.area.specs.Area.{partBytes, undecidedOf, partCleared, closedCleared, heldKept}
-use Rattle.connection.specs.State.{closed, liveAt}
+use Rattle.connection.specs.State as connections
+use Rattle.connection.specs.State.{closed, opened, liveAt, lowestFree}
 use Rattle.connection.specs.Supervision.{closesAt, tickedOf}
 use Rattle.connection.specs.declared.Connection.{Connection}
-use Rattle.device.specs.State.{sweepOf, closeOf}
+use Rattle.subscription.specs.State.{free}
+use Rattle.subscription.specs.Rules.{isFree, entryObeys}
+use Rattle.subscription.specs.declared.Subscription.{Subscription}
+use Rattle.subscription.proofs.Keeps as entries
+use Rattle.subscription.proofs.Keeps.{entry-view, free-unused}
+use Rattle.holders.specs.Holders.{holderObeys}
+use Rattle.device.specs.State.{withConnections, openOf, sweepOf, closeOf}
+use Rattle.device.specs.Rules.{deviceObeys}
 use Rattle.device.specs.Time.{tickOf}
-use Rattle.device.specs.Closure.{Gone, Stays}
+use Rattle.device.specs.Closure.{isLockOf, isEntryOf, locksOf, entriesOf, noLocks, noEntries, Gone, Stays}
 use Rattle.device.specs.declared.Device.{Device}
+use Rattle.device.proofs.Keeps.{obeys-are}
 use Rattle.device.proofs.Closures.{closure-frees}
 use Rattle.stream.specs.Machine.{Held, put, only}
 use Rattle.stream.specs.Lent.{partOf, flat, counted}
 use Rattle.stream.proofs.Lent.{Small, put-same, put-other, getD-counted, set-counted, part-flat, clear-flat}
 use Rattle.stream.proofs.Stream.{put-elim}
-use Rattle.endpoint.specs.State.{stateOf, livesIn, closedState}
+use Rattle.endpoint.specs.State.{stateOf, livesIn, recordObeys, closedState}
 use Rattle.endpoint.specs.Numbers.{Outcome}
-use Rattle.endpoint.specs.Calls.{closeCall, tickedBy, tickCall}
+use Rattle.endpoint.specs.Calls.{openedBy, openCall, closeCall, tickedBy, tickCall}
 use Rattle.endpoint.specs.Deliver.{leastOutput, heldAt, messaged, deliveredBy, takenIn, deliverCall}
 use Rattle.endpoint.specs.declared.Record.{Record}
 use Rattle.endpoint.proofs.States.{live-low}
+use Rattle.endpoint.proofs.Takes.{index-meets}
 use Rattle.promise.specs.Rules.{open?, bitOf}
 use Rattle.promise.specs.Kept.{Kept}
 use Rattle.promise.specs.Technician.{stepAt, passes}
-use Rattle.promise.specs.Closure.{partIn, Left, Unmoved, Closed, ClosureLeavesNothing}
-use Rattle.promise.proofs.Lives.{GoodAt}
+use Rattle.promise.specs.Closure.{partIn, Left, Unmoved, Closed, New, ClosureLeavesNothing}
+use Rattle.promise.proofs.Lives.{GoodAt, live-still}
 use Rattle.promise.proofs.Bridge.{small}
 use Rattle.promise.proofs.Asks.{ticked-counts, ticked-area}
 use Rattle.promise.proofs.Laws.{mask-bit, mask-beyond}
 use Rattle.promise.proofs.Lents.{heldIn, kept-good, kept-counts, kept-area}
 use Rattle.promise.proofs.Technicians.{maskAt, Ticks, passed, ticked-at, never-idle}
+
+-- answers of which a number differs
+differ : (P : Type 0) (i : ℕ) (a b : List ℕ) → a ≡ b → eqb (getD a i 0) (getD b i 0) ≡ false → P
+differ P i a b e d = clash P (eqb (getD a i 0) (getD b i 0)) (eq-eqb (getD a i 0) (getD b i 0) (ap (λ (x : List ℕ). getD x i 0) e)) d
 
 -- ---- bytes held, in the counts and in the area
 
@@ -86,9 +103,6 @@ record Into (j : Held) (held area : List ℕ) : Type 0 where
   bytes : area ≡ flat j 8
 
 module _ (r : Record) (area : List ℕ) (w : Kept r area) where
-  h : Held
-  h = heldIn r area
-
   good : GoodAt (r .device) (heldIn r area)
   good = kept-good r area w
 
@@ -159,10 +173,6 @@ module _ (r : Record) (area : List ℕ) (w : Kept r area) where
         others = λ k d v. rw (s .state, s .next) (closed-others n (s .live) k d v);
         supervised = λ k d. rw (s .state) (closed-same n (s .live) k d);
       }
-
-  -- answers of which a number differs
-  differ : (P : Type 0) (i : ℕ) (a b : List ℕ) → a ≡ b → eqb (getD a i 0) (getD b i 0) ≡ false → P
-  differ P i a b e d = clash P (eqb (getD a i 0) (getD b i 0)) (eq-eqb (getD a i 0) (getD b i 0) (ap (λ (x : List ℕ). getD x i 0) e)) d
 
   host : (n : ℕ) → closeCall r area n .answer ≡ 0 ∷ [] → Shuts n (closeCall r area n)
   unfolding closeCall
@@ -238,6 +248,81 @@ module _ (r : Record) (area : List ℕ) (w : Kept r area) where
         (unmoved-in e (only (open? e) (heldIn r area)) (heldKept (livesIn e) (r .held)) (closedCleared (livesIn e) area) only-into k l g
         (rw (g .live)))
 
+-- ---- an opening
+
+-- where the rules hold, a connection that is not open has no lock and no entry
+module _ (cs : List Connection) (n : ℕ) (z : liveAt cs n ≡ false) where
+  lock-none : (x : ℕ) → holderObeys cs x ≡ true → cond (isLockOf n x) x 0 ≡ 0
+  unfolding isLockOf holderObeys
+  lock-none x o = go (eqb x (n + 1)) refl
+    where
+      go : (b : Bool) → eqb x (n + 1) ≡ b → cond b x 0 ≡ 0
+      go false b = refl
+      go true b =
+          let e = eqb-true x (n + 1) b in
+          let p : x - 1 ≡ n = omega arith in
+          clash _ (liveAt cs n) (rw (ne-eqb x 0 (λ q. omega arith), p) at o) z
+
+  entry-none : (s : Subscription) → entryObeys cs s ≡ true → cond (isEntryOf n s) s free ≡ free
+  unfolding isEntryOf
+  entry-none s o = ⊎-elim (λ (f : isFree s ≡ true). rw (free-unused s f)) (λ (k : entries.Sound cs s). go k (eqb (s .connection) n) refl) (entry-view cs s o)
+    where
+      go : entries.Sound cs s → (b : Bool) → eqb (s .connection) n ≡ b → cond (s .used && b) s free ≡ free
+      go k true b = clash _ (liveAt cs n) (ap (liveAt cs) (sym (eqb-true (s .connection) n b)) ∙ k .live) z
+      go k false b = rw and-false
+
+module _ (r : Record) (area : List ℕ) (w : Kept r area) (n : ℕ) (p : openCall r .answer ≡ 0 ∷ n ∷ []) where
+  -- what it did: n is the lowest free number
+  record Opens : Type 0 where
+    some : any connections.isFree (r .device .connections) ≡ true
+    number : lowestFree (r .device .connections) ≡ n
+    state : openCall r .state ≡ stateOf (withConnections (r .device) (set (r .device .connections) n opened)) (r .held)
+
+  opens : Opens
+  unfolding openCall openedBy openOf
+  opens = go (any connections.isFree (r .device .connections)) refl
+    where
+      go : (b : Bool) → any connections.isFree (r .device .connections) ≡ b → Opens
+      go true b =
+          let q : _≡_ {A = List ℕ} (0 ∷ lowestFree (r .device .connections) ∷ []) (0 ∷ n ∷ []) = rw (w .obeys, b) at p in
+          let e : lowestFree (r .device .connections) ≡ n = ap (λ (x : List ℕ). getD x 1 0) q in
+          record { some = b; number = e; state = rw (w .obeys, b, e) }
+      go false b = differ _ 0 (5 ∷ []) (0 ∷ n ∷ []) (rw (w .obeys, b) at p) refl
+
+  under : n < length (r .device .connections)
+  under =
+      rw (opens .number) at
+      (ltb-true (lowestFree (r .device .connections)) (length (r .device .connections)) (sym (any-index connections.isFree (r .device .connections)) ∙ opens .some))
+
+  shut : liveAt (r .device .connections) n ≡ false
+  unfolding liveAt connections.isFree
+  shut =
+      not-true _
+      (rw (opens .number) at (index-meets connections.isFree (r .device .connections) closed (rw (opens .number) under)))
+
+  new : New n r (openCall r .state) area
+  unfolding locksOf entriesOf noLocks noEntries recordObeys
+  new =
+      let d = r .device in
+      let l : n < 8 = omega (arith, under, w .eight) in
+      let o = obeys-are d (and-left (deviceObeys d) _ (w .obeys)) in
+      let q = good r area w .empty n shut in
+      rw (opens .state)
+      (record {
+        free = shut;
+        connection = getD-set-same (d .connections) n opened closed under;
+        locks = map-all (holderObeys (d .connections)) _ _ (lock-none (d .connections) n shut) (d .holders) (o .holders);
+        entries = map-all (entryObeys (d .connections)) _ _ (entry-none (d .connections) n shut) (d .subscriptions) (o .entries);
+        count = ap (λ (x : List ℕ). getD x n 0) (sym (kept-counts r area w)) ∙ count-empty (heldIn r area) n l q;
+        bytes = ap (λ (x : List ℕ). partIn x n) (sym (kept-area r area w)) ∙ part-empty (heldIn r area) n (few r area w) l q;
+      })
+
+  open-others : (k : ℕ) → liveAt (r .device .connections) k ≡ true → Unmoved k r area (openCall r .state) area
+  unfolding locksOf entriesOf
+  open-others k v =
+      rw (opens .state)
+      (record { stays = record { live = live-still (r .device) n k v; locks = refl; entries = refl }; count = refl; bytes = refl })
+
 pub closure-leaves-nothing : ClosureLeavesNothing
 closure-leaves-nothing =
     record {
@@ -245,4 +330,6 @@ closure-leaves-nothing =
       byFault = λ r area n piece out taken number w p. closed-by r area w n (deliverCall r area n piece out) (fault r area w n piece out taken number p);
       byTick = λ r area reading mask w p. tick-left r area w reading mask p;
       byTickOthers = λ r area reading mask w p. tick-others r area w reading mask p;
+      reopened = λ r area n w p. new r area w n p;
+      openOthers = λ r area n w p. open-others r area w n p;
     }

@@ -107,7 +107,7 @@ unfolding livesIn
 lives-told d i = sound-kept .told-living d i
 
 -- who is open stays open when another is opened
-live-still : (d : Device) (i k : ℕ) → liveAt (d .connections) k ≡ true → liveAt (set (d .connections) i opened) k ≡ true
+pub live-still : (d : Device) (i k : ℕ) → liveAt (d .connections) k ≡ true → liveAt (set (d .connections) i opened) k ≡ true
 unfolding liveAt
 live-still d i k l = go (eqb k i) refl
   where

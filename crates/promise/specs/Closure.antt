@@ -44,6 +44,7 @@ pub record Closed (n : ℕ) (r : Record) (area : List ℕ) (o : Outcome) : Type 
 
 -- connection n is newly opened: all counts zero, no lock, no entry, no byte
 pub record New (n : ℕ) (r r' : Record) (area : List ℕ) : Type 0 where
+  pub free : liveAt (r .device .connections) n ≡ false
   pub connection : getD (r' .device .connections) n closed ≡ opened
   pub locks : locksOf n (r' .device) ≡ noLocks (r .device)
   pub entries : entriesOf n (r' .device) ≡ noEntries (r .device)
@@ -58,3 +59,6 @@ pub record ClosureLeavesNothing : Type 0 where
   -- a tick: whoever's bit is set, and whoever's is not
   pub byTick : (r : Record) (area : List ℕ) (reading mask : ℕ) → Kept r area → tickCall r area reading .answer ≡ 0 ∷ mask ∷ [] → (n : ℕ) → bitOf mask n ≡ true → Left n r (tickCall r area reading .state) (tickCall r area reading .area)
   pub byTickOthers : (r : Record) (area : List ℕ) (reading mask : ℕ) → Kept r area → tickCall r area reading .answer ≡ 0 ∷ mask ∷ [] → (k : ℕ) → bitOf mask k ≡ false → liveAt (r .device .connections) k ≡ true → Unmoved k r area (tickCall r area reading .state) (tickCall r area reading .area)
+  -- opening gives a number that was not open, and whatever was there before, it starts as newly opened
+  pub reopened : (r : Record) (area : List ℕ) (n : ℕ) → Kept r area → openCall r .answer ≡ 0 ∷ n ∷ [] → New n r (openCall r .state) area
+  pub openOthers : (r : Record) (area : List ℕ) (n : ℕ) → Kept r area → openCall r .answer ≡ 0 ∷ n ∷ [] → (k : ℕ) → liveAt (r .device .connections) k ≡ true → Unmoved k r area (openCall r .state) area
