@@ -6,3 +6,4 @@ pub mod Lents
 pub mod Keeps
 pub mod Technicians
 pub mod Closing
+pub mod Alive

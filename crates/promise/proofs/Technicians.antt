@@ -6,7 +6,7 @@ use mathlib.Core.List.{List, [], _∷_, _++_}
 use native.Mathlib.Omega.{arith}
 use native.Mathlib.Nat.{not-suc-le-zero, le-of-suc-le-suc}
 use lib.Dec.{eqb, leb, ltb}
-use lib.ListN.{length, getD, set, take, drop, length-set, List·getD-map}
+use lib.ListN.{length, getD, set, take, drop, length-set, length-map, List·getD-map}
 use lib.Seq.{getD-set-other, map-set-same}
 use borrow.Author.Tests.{eqb-true, eqb-false, eq-eqb, ne-eqb, le-leb, lt-leb, not-true, not-false}
 use Rattle.laws.specs.Lists.{all, any, index, mask}
@@ -133,11 +133,19 @@ module _ (r : Record) (area : List ℕ) (reading : ℕ) (p : passes r area readi
   unfolding tickedBy
   answer = ap (λ (o : Outcome). o .answer) (t .given)
 
+  -- connection n after it; there are as many entries as before
+  pub connection-after : (n : ℕ) → getD (tickCall r area reading .state .device .connections) n closed ≡ tickedOf (stepAt r reading) (getD (r .device .connections) n closed)
+  connection-after n = rw after (ticked-at r reading n (t .timely))
+
+  pub entries-after : length (tickCall r area reading .state .device .subscriptions) ≡ length (r .device .subscriptions)
+  unfolding tickBy sweepOf
+  entries-after = rw (after, t .timely .early, t .timely .fits) (length-map (r .device .subscriptions) _)
+
   told : tickOf (r .device) reading .answer ≡ ticks.Closed (maskAt r reading)
   unfolding tickBy
   told = rw (t .timely .early, t .timely .fits)
 
-  moved : tickCall r area reading .state .device .reading ≡ reading
+  pub moved : tickCall r area reading .state .device .reading ≡ reading
   unfolding tickBy sweepOf
   moved = rw (after, t .timely .early, t .timely .fits)
 

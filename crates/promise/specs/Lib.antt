@@ -4,3 +4,4 @@ pub mod Stream
 pub mod Examples
 pub mod Technician
 pub mod Closure
+pub mod Heartbeats

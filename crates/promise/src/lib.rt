@@ -4,6 +4,7 @@ ghost use Rattle.promise.specs.Stream.{StreamTheorem, CuttingDoesNotMatt
 ghost use Rattle.promise.specs.Examples.{ExamplesWorked};
 ghost use Rattle.promise.specs.Technician.{TechnicianLetIn};
 ghost use Rattle.promise.specs.Closure.{ClosureLeavesNothing};
+ghost use Rattle.promise.specs.Heartbeats.{HeartbeatSent};
 
 // Every call keeps the record rules and the area, so refusals 1 and 2 never come in a run.
 pub fn calls_keep()
@@ -36,4 +37,9 @@ pub fn technician_let_in()
 // At a closure nothing of that connection is left, and nothing of the others is touched.
 pub fn closure_leaves_nothing()
     ensures { λ _. ⌜ ClosureLeavesNothing ⌝ }
+{}
+
+// A connection on which nothing was sent for its heartbeat is due, and the takes that follow send it something.
+pub fn heartbeat_sent()
+    ensures { λ _. ⌜ HeartbeatSent ⌝ }
 {}

@@ -1,0 +1,145 @@
+-- The device's own heartbeat: a connection on which nothing is sent for H is sent something.
+-- Document 01 'Time and supervision': "If it stays open and nothing is due, the step is added to quiet; at H or more, due is set
+-- and quiet becomes 0. Anything the device sends on a connection clears quiet and due there", and 'Our objects', "Take writes one
+-- message and names its connection".
+use Prim.Native.Nat.{ℕ, zero, suc, _+_, _<_, _≤_}
+use mathlib.Core.Path.{_≡_}
+use mathlib.Core.Bool.{Bool, true, false, cond, _&&_, _||_}
+use mathlib.Core.List.{List, [], _∷_, _++_}
+use lib.Dec.{eqb}
+use lib.ListN.{length, getD, take}
+use Rattle.laws.specs.Lists.{any}
+use Rattle.heartbeat.specs.Beat.{formOf, beatOf}
+use Rattle.heartbeat.specs.declared.Heartbeat.{Heartbeat}
+use Rattle.frame.specs.Limits.{notification, response}
+use Rattle.frame.specs.Header.{pduType}
+use Rattle.frame.specs.Decide.{decide}
+use Rattle.frame.specs.declared.Decision.the-variants.{Sound}
+use Rattle.layout.specs.Message.{atFront}
+use Rattle.area.specs.Area.{undecidedOf}
+use Rattle.connection.specs.State.{connectionCount, closed, liveAt, isDue, lowestDue}
+use Rattle.subscription.specs.State.{entryCount, isWaiting}
+use Rattle.device.specs.declared.Device.{Device}
+use Rattle.replies.specs.Bytes.{keepAliveBytes}
+use Rattle.endpoint.specs.State.{recordObeys}
+use Rattle.device.specs.Time.{stepOf}
+use Rattle.endpoint.specs.Calls.{tickCall}
+use Rattle.endpoint.specs.Deliver.{leastOutput, heldAt, deliverCall}
+use Rattle.endpoint.specs.Take.{takeCall}
+use Rattle.endpoint.specs.declared.Record.{Record}
+use Rattle.promise.specs.Kept.{Kept}
+use Rattle.promise.specs.Technician.{stepAt, passes}
+
+-- the record and the area after ticks at these readings, with no other call between
+unfoldable pub ticksCall : Record → List ℕ → List ℕ → Record × List ℕ
+ticksCall r area [] = (r, area)
+ticksCall r area (reading ∷ rest) = ticksCall (tickCall r area reading .state) (tickCall r area reading .area) rest
+
+-- none of them is refused
+unfoldable pub allPass : Record → List ℕ → List ℕ → Bool
+allPass r area [] = true
+allPass r area (reading ∷ rest) =
+    passes r area reading && allPass (tickCall r area reading .state) (tickCall r area reading .area) rest
+
+-- the sum of their steps, from the last reading on
+unfoldable pub ticksTime : ℕ → List ℕ → ℕ
+ticksTime last [] = 0
+ticksTime last (reading ∷ rest) = stepOf reading last + ticksTime reading rest
+
+-- connection n is open, with heartbeat H above zero and that quiet, due or not
+pub record Paced (d : Device) (n H quiet : ℕ) (due : Bool) : Type 0 where
+  pub live : liveAt (d .connections) n ≡ true
+  pub above : 0 < H
+  pub beat : getD (d .connections) n closed .beat ≡ H
+  pub counted : getD (d .connections) n closed .quiet ≡ quiet
+  pub marked : getD (d .connections) n closed .due ≡ due
+
+-- connection n is open after the tick; after ticks one after another
+abbrev pub openAfter : Record → List ℕ → ℕ → ℕ → Bool
+openAfter r area reading n = liveAt (tickCall r area reading .state .device .connections) n
+
+abbrev pub openAtLast : Record → List ℕ → List ℕ → ℕ → Bool
+openAtLast r area readings n = liveAt (ticksCall r area readings .0 .device .connections) n
+
+-- ---- what is received
+
+-- connection n's undecided bytes and the piece
+abbrev pub broughtBy : Record → List ℕ → ℕ → List ℕ → List ℕ
+broughtBy r area n piece = undecidedOf area n (heldAt r n) ++ piece
+
+-- the message is a notification or a response
+unfoldable pub isUnanswered : List ℕ → Bool
+isUnanswered m = eqb (pduType m) notification || eqb (pduType m) response
+
+-- ---- takes
+
+-- a record that row 1 does not refuse, its arrays with their lengths
+pub record Ready (r : Record) : Type 0 where
+  pub obeys : recordObeys r ≡ true
+  pub eight : length (r .device .connections) ≡ connectionCount
+  pub entries : length (r .device .subscriptions) ≡ entryCount
+
+-- the take sends connection n a keep-alive "in its form and with its H", and clears its quiet and due
+pub record Reminds (r : Record) (out : List ℕ) (n H : ℕ) : Type 0 where
+  pub heartbeat : Heartbeat
+  pub form : formOf heartbeat ≡ getD (r .device .connections) n closed .form
+  pub beat : beatOf heartbeat ≡ H
+  pub answer : takeCall r out .answer ≡ 0 ∷ 2 ∷ n ∷ length (keepAliveBytes heartbeat) ∷ []
+  pub output : takeCall r out .output ≡ atFront (keepAliveBytes heartbeat) out
+  pub after : Paced (takeCall r out .state .device) n H 0 false
+
+-- the take sends connection n something, a notification (1) or a keep-alive (2), clears its quiet and due, and leaves the others as they were
+pub record SendsTo (r : Record) (out : List ℕ) (n : ℕ) : Type 0 where
+  pub kind : ℕ
+  pub size : ℕ
+  pub some : 0 < kind
+  pub answer : takeCall r out .answer ≡ 0 ∷ kind ∷ n ∷ size ∷ []
+  pub quiet : getD (takeCall r out .state .device .connections) n closed .quiet ≡ 0
+  pub due : getD (takeCall r out .state .device .connections) n closed .due ≡ false
+  pub others : (k : ℕ) → eqb k n ≡ false → getD (takeCall r out .state .device .connections) k closed ≡ getD (r .device .connections) k closed
+
+-- how many elements meet the test
+abbrev pub count : {A : Type 0} → (A → Bool) → List A → ℕ
+count p [] = 0
+count p (x ∷ l) = cond (p x) 1 0 + count p l
+
+-- an entry waits, or a connection is due; how many of both
+unfoldable pub somethingWaits : Device → Bool
+somethingWaits d = any isWaiting (d .subscriptions) || any isDue (d .connections)
+
+unfoldable pub waitingIn : Device → ℕ
+waitingIn d = count isWaiting (d .subscriptions) + count isDue (d .connections)
+
+-- no more than every entry and every connection, 40
+abbrev pub mostWaiting : ℕ
+mostWaiting = entryCount + connectionCount
+
+-- the record after so many takes with these outputs, with no other call between
+unfoldable pub takesCall : Record → (ℕ → List ℕ) → ℕ → Record
+takesCall r outs zero = r
+takesCall r outs (suc k) = takesCall (takeCall r (outs 0) .state) (λ i. outs (suc i)) k
+
+pub record HeartbeatSent : Type 0 where
+  -- the tick at which quiet reaches H makes the connection due
+  pub due : (r : Record) (area : List ℕ) (reading n H quiet : ℕ) → Paced (r .device) n H quiet false → passes r area reading ≡ true → openAfter r area reading n ≡ true → H ≤ quiet + stepAt r reading → Paced (tickCall r area reading .state .device) n H 0 true
+  -- no tick does so before: quiet is the quiet that was, and the step
+  pub counts : (r : Record) (area : List ℕ) (reading n H quiet : ℕ) → Paced (r .device) n H quiet false → passes r area reading ≡ true → openAfter r area reading n ≡ true → quiet + stepAt r reading < H → Paced (tickCall r area reading .state .device) n H (quiet + stepAt r reading) false
+  -- once due, no tick that leaves it open ends that
+  pub staysDue : (r : Record) (area : List ℕ) (reading n H quiet : ℕ) → Paced (r .device) n H quiet true → passes r area reading ≡ true → openAfter r area reading n ≡ true → Paced (tickCall r area reading .state .device) n H quiet true
+  -- tick after tick, the quiet is the sum of the steps as long as that is below H
+  pub many : (r : Record) (area readings : List ℕ) (n H quiet : ℕ) → Paced (r .device) n H quiet false → allPass r area readings ≡ true → openAtLast r area readings n ≡ true → quiet + ticksTime (r .device .reading) readings < H → Paced (ticksCall r area readings .0 .device) n H (quiet + ticksTime (r .device .reading) readings) false
+  -- and once the sum has reached H, it is due
+  pub dueByThen : (r : Record) (area readings : List ℕ) (n H quiet : ℕ) → Paced (r .device) n H quiet false → quiet < H → allPass r area readings ≡ true → openAtLast r area readings n ≡ true → H ≤ quiet + ticksTime (r .device .reading) readings → Paced (ticksCall r area readings .0 .device) n H 0 true
+  -- "Notifications and responses received do no more" than reset the silence: they clear neither quiet nor due
+  pub received : (r : Record) (area : List ℕ) (n : ℕ) (piece out : List ℕ) (t H quiet : ℕ) (due : Bool) → Paced (r .device) n H quiet due → decide (broughtBy r area n piece) ≡ Sound t → isUnanswered (take t (broughtBy r area n piece)) ≡ true → Paced (deliverCall r area n piece out .state .device) n H quiet due
+  -- where no entry waits, a take sends the lowest connection due its keep-alive
+  pub sends : (r : Record) (out : List ℕ) (n H quiet : ℕ) → Ready r → leastOutput ≤ length out → Paced (r .device) n H quiet true → any isWaiting (r .device .subscriptions) ≡ false → lowestDue (r .device .connections) ≡ n → Reminds r out n H
+  -- where an entry waits or a connection is due, a take sends something
+  pub something : (r : Record) (out : List ℕ) → Ready r → leastOutput ≤ length out → somethingWaits (r .device) ≡ true → (n : ℕ) × SendsTo r out n
+  -- so that fewer wait after it, of at most 40
+  pub fewer : (r : Record) (out : List ℕ) → Ready r → leastOutput ≤ length out → somethingWaits (r .device) ≡ true → waitingIn (takeCall r out .state .device) < waitingIn (r .device)
+  pub most : (r : Record) → Ready r → waitingIn (r .device) ≤ mostWaiting
+  -- so a connection due is sent something by one of that many takes
+  pub reached : (r : Record) (outs : ℕ → List ℕ) (n : ℕ) → Ready r → ((k : ℕ) → leastOutput ≤ length (outs k)) → getD (r .device .connections) n closed .due ≡ true → (j : ℕ) × ((j < waitingIn (r .device)) × SendsTo (takesCall r outs j) (outs j) n)
+  -- together: a connection that stays open over ticks, with no other call between, until its quiet has reached H is sent something by one of the next 40 takes
+  pub heard : (r : Record) (area readings : List ℕ) (n H quiet : ℕ) (outs : ℕ → List ℕ) → Kept r area → length (r .device .subscriptions) ≡ entryCount → Paced (r .device) n H quiet false → quiet < H → allPass r area readings ≡ true → openAtLast r area readings n ≡ true → H ≤ quiet + ticksTime (r .device .reading) readings → ((k : ℕ) → leastOutput ≤ length (outs k)) → (j : ℕ) × ((j < mostWaiting) × SendsTo (takesCall (ticksCall r area readings .0) outs j) (outs j) n)
