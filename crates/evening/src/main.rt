@@ -18,10 +18,6 @@ const TABLET_1: u8 = 1;
 
 const PANEL: u8 = 2;
 
-const MUTED: u8 = 1;
-
-const UNMUTED: u8 = 2;
-
 // Where a reply has the status of its first command, a keep-alive the last byte of its seconds, and a notification the new value.
 const STATUS_AT: usize = 18;
 
@@ -32,6 +28,91 @@ const VALUE_AT: usize = 39;
 // What is printed for a byte past the end.
 const NO_BYTE: u8 = 255;
 
+// Lock of 4101.
+const LOCK: [u8; 27] = [
+    0x3B,
+    0,
+    1,
+    0,
+    0,
+    0,
+    0x1A,
+    1,
+    0,
+    1,
+    0,
+    0,
+    0,
+    0x11,
+    0,
+    0,
+    0,
+    7,
+    0,
+    0,
+    0x10,
+    0x05,
+    0,
+    1,
+    0,
+    3,
+    0,
+];
+
+// Add: emitter 4101, event 1.1, subscriber object 9 method 3.1, context 01 02 03 04.
+const SUBSCRIBE: [u8; 50] = [
+    0x3B,
+    0,
+    1,
+    0,
+    0,
+    0,
+    0x31,
+    1,
+    0,
+    1,
+    0,
+    0,
+    0,
+    0x28,
+    0,
+    0,
+    0,
+    9,
+    0,
+    0,
+    0,
+    4,
+    0,
+    3,
+    0,
+    1,
+    5,
+    0,
+    0,
+    0x10,
+    0x05,
+    0,
+    1,
+    0,
+    1,
+    0,
+    0,
+    0,
+    9,
+    0,
+    3,
+    0,
+    1,
+    1,
+    2,
+    3,
+    4,
+    1,
+    0,
+    0,
+];
+
 fn say(text: &[u8]) {
     io::write_all(STDOUT_FILENO, text);
 }
@@ -41,8 +122,75 @@ fn say_number(text: &[u8], n: u64) {
     io::print_decimal(STDOUT_FILENO, n);
 }
 
-fn end_line() {
+fn end_line(text: &[u8], n: u64) {
+    say_number(text, n);
     io::write_all(STDOUT_FILENO, b"\n");
+}
+
+// Who speaks on a connection, and what is done.
+fn say_who(n: u8, deed: &[u8]) {
+    if n == PANEL {
+        say(b"the panel");
+    } else {
+        say_number(b"tablet ", n as u64);
+    }
+    say(deed);
+}
+
+fn tell_opening(answer: Opening) {
+    match answer {
+        Opening::Number(n) => end_line(b" connects: connection ", n as u64),
+        _ => say(b" connects: refused\n"),
+    }
+}
+
+// Of a reply, one byte is printed after its name.
+fn tell_reply(length: usize, name: &[u8], byte: u8) {
+    if length == 0 {
+        say(b": no reply\n");
+        return;
+    }
+    end_line(name, byte as u64);
+}
+
+fn tell_delivery(answer: Delivery, name: &[u8], byte: u8) {
+    match answer {
+        Delivery::More(taken) => end_line(b": more needed, bytes taken ", taken as u64),
+        Delivery::Message(_, length) => tell_reply(length, name, byte),
+        Delivery::Closed(_, fault) => end_line(b": closed, fault ", fault as u64),
+        _ => say(b": refused\n"),
+    }
+}
+
+fn tell_notification(n: u8, length: usize, value: u8) {
+    say_number(b"take: notification to connection ", n as u64);
+    say_number(b", bytes ", length as u64);
+    end_line(b", value ", value as u64);
+}
+
+fn tell_taking(answer: Taking, value: u8) {
+    match answer {
+        Taking::Notification(n, length) => tell_notification(n, length, value),
+        Taking::KeepAlive(n, _) => end_line(b"take: keep-alive to connection ", n as u64),
+        Taking::Nothing => say(b"take: nothing\n"),
+        _ => say(b"take: refused\n"),
+    }
+}
+
+fn tell_ticking(reading: u32, answer: Ticking) {
+    say_number(b"tick at ", reading as u64);
+    match answer {
+        Ticking::Closed(mask) => end_line(b" ms: closed mask ", mask as u64),
+        _ => say(b" ms: refused\n"),
+    }
+}
+
+fn tell_closing(n: u8, answer: Closing) {
+    say_number(b"the host closes connection ", n as u64);
+    match answer {
+        Closing::Done => say(b": done\n"),
+        _ => say(b": refused\n"),
+    }
 }
 
 fn byte_at(s: &[u8], n: usize) -> u8 {
@@ -69,15 +217,11 @@ fn open(state: Record, who: &[u8]) -> Record {
     let opened = state.open();
     let answer = opened.answer;
     say(who);
-    match answer {
-        Opening::Number(n) => say_number(b" connects: connection ", n as u64),
-        _ => say(b" connects: refused"),
-    }
-    end_line();
+    tell_opening(answer);
     opened.state
 }
 
-// A piece is delivered; of a reply, the byte at a place is printed after its name.
+// A piece is delivered; of a reply, the byte at a place is told.
 fn hear(
     state: Record,
     area: &mut [u8],
@@ -89,68 +233,47 @@ fn hear(
 ) -> Record {
     let heard = state.deliver(area, n, piece, out);
     let answer = heard.answer;
-    match answer {
-        Delivery::More(taken) => say_number(b": more needed, bytes taken ", taken as u64),
-        Delivery::Message(_, _) => say_number(name, byte_at(&out[0..], at) as u64),
-        Delivery::Closed(_, fault) => say_number(b": closed, fault ", fault as u64),
-        _ => say(b": refused"),
-    }
-    end_line();
+    tell_delivery(answer, name, byte_at(&out[0..], at));
     heard.state
 }
 
-// A command wanting reply: its status.
-fn command(state: Record, area: &mut [u8], out: &mut [u8], n: u8, piece: &[u8]) -> Record {
+// A command wanting reply: its status is told.
+fn command(
+    state: Record,
+    area: &mut [u8],
+    out: &mut [u8],
+    n: u8,
+    piece: &[u8],
+    deed: &[u8],
+) -> Record {
+    say_who(n, deed);
     hear(state, area, out, n, piece, STATUS_AT, b": status ")
 }
 
 fn take(state: Record, out: &mut [u8]) -> Record {
     let taken = state.take(out);
     let answer = taken.answer;
-    match answer {
-        Taking::Notification(n, length) => {
-            say_number(b"take: notification to connection ", n as u64);
-            say_number(b", bytes ", length as u64);
-            say_number(b", value ", byte_at(&out[0..], VALUE_AT) as u64);
-        }
-        Taking::KeepAlive(n, length) => {
-            say_number(b"take: keep-alive to connection ", n as u64);
-            say_number(b", bytes ", length as u64);
-        }
-        Taking::Nothing => say(b"take: nothing"),
-        _ => say(b"take: refused"),
-    }
-    end_line();
+    tell_taking(answer, byte_at(&out[0..], VALUE_AT));
     taken.state
 }
 
 fn tick(state: Record, area: &mut [u8], reading: u32) -> Record {
     let ticked = state.tick(area, reading);
     let answer = ticked.answer;
-    say_number(b"tick at ", reading as u64);
-    match answer {
-        Ticking::Closed(mask) => say_number(b" ms: closed mask ", mask as u64),
-        _ => say(b" ms: refused"),
-    }
-    end_line();
+    tell_ticking(reading, answer);
     ticked.state
 }
 
 fn close(state: Record, area: &mut [u8], n: u8) -> Record {
     let closed = state.close(area, n);
     let answer = closed.answer;
-    say_number(b"the host closes connection ", n as u64);
-    match answer {
-        Closing::Done => say(b": done\n"),
-        _ => say(b": refused\n"),
-    }
+    tell_closing(n, answer);
     closed.state
 }
 
 fn heartbeat(state: Record, area: &mut [u8], out: &mut [u8], n: u8) -> Record {
     let beat = [0x3Bu8, 0, 1, 0, 0, 0, 0x0B, 4, 0, 1, 0, 30];
-    say_number(b"tablet ", n as u64);
-    say(b" sets its heartbeat");
+    say_who(n, b" sets its heartbeat");
     hear(
         state,
         area,
@@ -163,41 +286,18 @@ fn heartbeat(state: Record, area: &mut [u8], out: &mut [u8], n: u8) -> Record {
 }
 
 fn lock(state: Record, area: &mut [u8], out: &mut [u8], n: u8) -> Record {
-    let piece = [
-        0x3Bu8,
-        0,
-        1,
-        0,
-        0,
-        0,
-        0x1A,
-        1,
-        0,
-        1,
-        0,
-        0,
-        0,
-        0x11,
-        0,
-        0,
-        0,
-        7,
-        0,
-        0,
-        0x10,
-        0x05,
-        0,
-        1,
-        0,
-        3,
-        0,
-    ];
-    say_number(b"tablet ", n as u64);
-    say(b" asks for the lock of channel 5");
-    command(state, area, out, n, &piece)
+    let piece = LOCK;
+    command(
+        state,
+        area,
+        out,
+        n,
+        &piece,
+        b" asks for the lock of channel 5",
+    )
 }
 
-fn set(state: Record, area: &mut [u8], out: &mut [u8], n: u8, value: u8) -> Record {
+fn set(state: Record, area: &mut [u8], out: &mut [u8], n: u8, value: u8, deed: &[u8]) -> Record {
     let piece = [
         0x3Bu8,
         0,
@@ -228,81 +328,30 @@ fn set(state: Record, area: &mut [u8], out: &mut [u8], n: u8, value: u8) -> Reco
         1,
         value,
     ];
-    say_number(b"tablet ", n as u64);
-    say_number(b" sets channel 5 to ", value as u64);
-    command(state, area, out, n, &piece)
+    command(state, area, out, n, &piece, deed)
 }
 
-// Subscriber object 9 method 3.1, context 01 02 03 04.
 fn subscribe(state: Record, area: &mut [u8], out: &mut [u8], n: u8) -> Record {
-    let piece = [
-        0x3Bu8,
-        0,
-        1,
-        0,
-        0,
-        0,
-        0x31,
-        1,
-        0,
-        1,
-        0,
-        0,
-        0,
-        0x28,
-        0,
-        0,
-        0,
-        9,
-        0,
-        0,
-        0,
-        4,
-        0,
-        3,
-        0,
-        1,
-        5,
-        0,
-        0,
-        0x10,
-        0x05,
-        0,
-        1,
-        0,
-        1,
-        0,
-        0,
-        0,
-        9,
-        0,
-        3,
-        0,
-        1,
-        1,
-        2,
-        3,
-        4,
-        1,
-        0,
-        0,
-    ];
-    say(b"the panel subscribes to channel 5");
-    command(state, area, out, n, &piece)
+    let piece = SUBSCRIBE;
+    command(state, area, out, n, &piece, b" subscribes to channel 5")
 }
 
-// The first half of a lock command.
+// The first bytes of a lock command.
 fn half_message(state: Record, area: &mut [u8], out: &mut [u8], n: u8) -> Record {
     let piece = [0x3Bu8, 0, 1, 0, 0, 0, 0x1A, 1, 0, 1, 0, 0, 0];
-    say_number(b"tablet ", n as u64);
-    say(b" sends half a message and dies");
-    command(state, area, out, n, &piece)
+    command(
+        state,
+        area,
+        out,
+        n,
+        &piece,
+        b" sends half a message and dies",
+    )
 }
 
 fn faulty_byte(state: Record, area: &mut [u8], out: &mut [u8], n: u8) -> Record {
     let piece = [0u8];
-    say(b"the panel sends a faulty byte");
-    command(state, area, out, n, &piece)
+    command(state, area, out, n, &piece, b" sends a faulty byte")
 }
 
 fn connect(state: Record) -> Record {
@@ -318,7 +367,14 @@ fn tablet_0_locks(state: Record, area: &mut [u8], out: &mut [u8]) -> Record {
 
 fn tablet_0_mutes(state: Record, area: &mut [u8], out: &mut [u8]) -> Record {
     let subscribed = subscribe(state, area, out, PANEL);
-    let muted = set(subscribed, area, out, TABLET_0, MUTED);
+    let muted = set(
+        subscribed,
+        area,
+        out,
+        TABLET_0,
+        objects::MUTED,
+        b" mutes channel 5",
+    );
     take(muted, out)
 }
 
@@ -335,7 +391,14 @@ fn silence(state: Record, area: &mut [u8], out: &mut [u8]) -> Record {
 
 fn tablet_1_unmutes(state: Record, area: &mut [u8], out: &mut [u8]) -> Record {
     let locked = lock(state, area, out, TABLET_1);
-    let unmuted = set(locked, area, out, TABLET_1, UNMUTED);
+    let unmuted = set(
+        locked,
+        area,
+        out,
+        TABLET_1,
+        objects::UNMUTED,
+        b" unmutes channel 5",
+    );
     take(unmuted, out)
 }
 
