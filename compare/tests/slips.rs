@@ -13,8 +13,21 @@ use compare::harness::gate;
 use compare::record::{AREA, Record};
 use compare::second::{Second, rules};
 
-#[derive(Clone, Copy, Debug, PartialEq, Eq)]
-enum Slip {
+// one list, so that no slip is named and not tried
+macro_rules! slips {
+    ($($slip:ident,)*) => {
+        #[derive(Clone, Copy, Debug, PartialEq, Eq)]
+        enum Slip {
+            $($slip,)*
+        }
+
+        use Slip::*;
+
+        const ALL: &[Slip] = &[$($slip,)*];
+    };
+}
+
+slips! {
     FreshMuted,
     ClearLeavesTheLastByte,
     OpenGivesTheHighest,
@@ -69,66 +82,9 @@ enum Slip {
     SecondsCutTo16Bits,
 }
 
-use Slip::*;
-
-const ALL: [Slip; 52] = [
-    FreshMuted,
-    ClearLeavesTheLastByte,
-    OpenGivesTheHighest,
-    CloseKeepsLocks,
-    CloseKeepsEntries,
-    CloseKeepsUndecidedBytes,
-    SilenceIn32Bits,
-    LimitIn32Bits,
-    ClosesOnlyPastThreeH,
-    DueOnlyPastH,
-    QuietGrowsWhileDue,
-    ZeroHeartbeatCloses,
-    HalfRoundPasses,
-    TickIgnoresTheArea,
-    RunsBeforeTheCheck,
-    AnyByteIsHeard,
-    NotificationsClearQuiet,
-    RepliesKeepQuiet,
-    ZeroKeepsTheForm,
-    TakesOneTooMany,
-    LargestMessageFaulty,
-    TouchesTheOutputBehind,
-    TouchesTheOutputWithoutReply,
-    EmptyPieceIsRefused,
-    RoomForTheReplyIsEnough,
-    OtherHoldersMaySet,
-    SetToTheSameMarks,
-    ContextTellsTwinsApart,
-    FullTableBeforeTwin,
-    HandlesNotCopied,
-    TwinsUnseen,
-    ClosedHolderUnseen,
-    OddSecondsUnseen,
-    DueWithQuietUnseen,
-    FreeEntryContextUnseen,
-    UndecidedAtMost2049,
-    LastByteOfTheAreaUnseen,
-    DecidedBytesUnseen,
-    ConnectionBeforeRecord,
-    KeepAlivesFirst,
-    HighestEntryFirst,
-    TakeKeepsQuiet,
-    ReaderLooksBehind,
-    CountWithoutBytesFaulty,
-    StatusAndCountSwapped,
-    KeepAliveHasAnEntry,
-    PartFromTheEntry,
-    RefusedPartHasAPlace,
-    TooLongBeforeBadEntry,
-    AppendTouchesBehind,
-    CommandTypesMixed,
-    SecondsCutTo16Bits,
-];
-
 #[test]
 fn every_slip_is_found() {
-    for slip in ALL {
+    for &slip in ALL {
         match gate::gate(&Slipping(slip), &Second) {
             Ok(_) => panic!("{slip:?} was not found"),
             Err(difference) => {
