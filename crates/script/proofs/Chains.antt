@@ -1,0 +1,111 @@
+-- The chain from a script's calls to the rules over whole messages, and that every call can be written. Assumes nothing.
+use Prim.Native.Nat.{ℕ, zero, suc, _+_, _-_, _≤_, _<_}
+use mathlib.Core.Path.{_≡_, refl, sym, ap, _∙_}
+use mathlib.Core.Bool.{Bool, cond, true, false}
+use mathlib.Core.List.{List, [], _∷_, _++_}
+use native.Mathlib.Omega.{arith}
+use borrow.Author.Tests.{le-leb, lt-leb, le-ltb}
+use lib.Dec.{eqb, ltb}
+use lib.ListN.{length, getD, take, drop, length-append}
+use lib.Seq.{take-append-seam, drop-append-seam}
+use Rattle.octets.specs.Numbers.{be32At, bytes32, Octets}
+use Rattle.octets.proofs.Digits.{be32-bytes, octets-take, octets-drop}
+use Rattle.device.specs.declared.Device.{Device}
+use Rattle.stream.specs.Machine.{Call, deliver, ask, Held}
+use Rattle.stream.specs.Promise.{Bytes, AllBytes}
+use Rattle.stream.specs.Lent.{flat, counted}
+use Rattle.endpoint.specs.State.{stateOf}
+use Rattle.endpoint.specs.declared.Record.{Record}
+use Rattle.promise.specs.Rules.{Ask, opening, closing, ticking, taking, callOf}
+use Rattle.promise.specs.Stream.{StreamTheorem, GoodState, machine, gives, runOf}
+use Rattle.promise.proofs.Keeps.{stream-theorem}
+use Rattle.script.specs.Script.{numbersOf, stage, outputAfter, callBy, firstSize, callIn, behind, callsFrom, callsIn, lastOutput, lastAnswer, endOf, scriptOf}
+use Rattle.script.specs.Chain.{ScriptsRun}
+use Rattle.script.proofs.Stages.{is-deliver}
+
+call-bytes : (s output : List ℕ) → Octets s → Bytes (callIn s output)
+unfolding callIn callBy
+call-bytes s output o = go (eqb (getD s 0 0) 0) (eqb (getD s 0 0) 1) (eqb (getD s 0 0) 2) (eqb (getD s 0 0) 3)
+  where
+    piece : List ℕ
+    piece = take (firstSize s - 6) (drop 6 s)
+
+    go : (a b c d : Bool) → Bytes (cond a (ask opening) (cond b (ask (closing (getD s 1 0))) (cond c (ask (ticking (be32At s 2))) (cond d (ask (taking output)) (deliver (getD s 1 0) piece output)))))
+    go true b c d = tt
+    go false true c d = tt
+    go false false true d = tt
+    go false false false true = tt
+    go false false false false = octets-take (firstSize s - 6) (drop 6 s) (octets-drop 6 s o)
+
+calls-bytes : (k : ℕ) (r : Record) (area s output : List ℕ) → Octets s → AllBytes (callsFrom k r area s output)
+unfolding callsFrom AllBytes behind
+calls-bytes zero r area s output o = tt
+calls-bytes (suc k) r area s output o =
+    go (ltb (length s) 6)
+    (calls-bytes k (callOf r area c .state) (callOf r area c .area) (behind s) (outputAfter c (callOf r area c) output) (octets-drop (firstSize s) s o))
+  where
+    c : Call Ask (List ℕ)
+    c = callIn s output
+
+    cs : List (Call Ask (List ℕ))
+    cs = callsFrom k (callOf r area c .state) (callOf r area c .area) (behind s) (outputAfter c (callOf r area c) output)
+
+    go : (b : Bool) → AllBytes cs → AllBytes (cond b [] (c ∷ cs))
+    go true rest = tt
+    go false rest = (call-bytes s output o, rest)
+
+pieces-bytes : (r : Record) (area s output : List ℕ) → Octets s → AllBytes (callsIn r area s output)
+unfolding callsIn
+pieces-bytes r area s output o = calls-bytes (length s) r area s output o
+
+chained : (d : Device) (h : Held) (s output : List ℕ) → GoodState d h → Octets s
+    → let cs = callsIn (stateOf d (counted h 8)) (flat h 8) s output in
+    scriptOf (stateOf d (counted h 8)) (flat h 8) s output
+    ≡ stage (stateOf (machine d h cs .0 .0) (counted (machine d h cs .0 .1) 8)) (flat (machine d h cs .0 .1) 8)
+    (lastOutput output cs (gives d h cs)) (lastAnswer (numbersOf []) (gives d h cs))
+unfolding scriptOf endOf
+chained d h s output g o =
+    let r = stateOf d (counted h 8) in
+    let cs = callsIn r (flat h 8) s output in
+    rw (stream-theorem .real d h cs g (pieces-bytes r (flat h 8) s output o)) refl
+
+value-read : (kind n value : ℕ) (more : List ℕ) → value < 4294967296 → be32At (kind ∷ n ∷ (bytes32 value ++ more)) 2 ≡ value
+unfolding be32At bytes32
+value-read kind n value more v = be32-bytes value v
+
+asked : (kind n value : ℕ) (more output : List ℕ) → kind ≤ 3 → value < 4294967296
+    → (callIn (kind ∷ n ∷ (bytes32 value ++ more)) output ≡ callBy kind n value [] output) × (behind (kind ∷ n ∷ (bytes32 value ++ more)) ≡ more)
+unfolding callIn behind firstSize bytes32
+asked kind n value more output k v =
+    (rw (le-leb kind 3 k, value-read kind n value more v) refl, rw (le-leb kind 3 k) refl)
+
+size-of : (kind n : ℕ) (piece more : List ℕ) → 3 < kind → length piece < 4294967296
+    → firstSize (kind ∷ n ∷ (bytes32 (length piece) ++ (piece ++ more))) ≡ 6 + length piece
+unfolding firstSize bytes32
+size-of kind n piece more k v =
+    let s = kind ∷ n ∷ (bytes32 (length piece) ++ (piece ++ more)) in
+    let w : be32At s 2 ≡ length piece = value-read kind n (length piece) (piece ++ more) v in
+    let f : 6 + be32At s 2 ≤ length s = omega (arith, w, length-append piece more) in
+    rw (lt-leb kind 3 k, le-ltb (length s) (6 + be32At s 2) f) (ap (λ (x : ℕ). 6 + x) w)
+
+delivered : (kind n : ℕ) (piece more output : List ℕ) → 3 < kind → length piece < 4294967296
+    → (callIn (kind ∷ n ∷ (bytes32 (length piece) ++ (piece ++ more))) output ≡ deliver n piece output)
+    × (behind (kind ∷ n ∷ (bytes32 (length piece) ++ (piece ++ more))) ≡ more)
+unfolding callIn behind bytes32
+delivered kind n piece more output k v =
+    (rw (sized, less, take-append-seam piece more, is-deliver kind n (be32At s 2) piece output k) refl, rw (sized, six) (drop-append-seam piece more))
+  where
+    s : List ℕ
+    s = kind ∷ n ∷ (bytes32 (length piece) ++ (piece ++ more))
+
+    sized : firstSize s ≡ 6 + length piece
+    sized = size-of kind n piece more k v
+
+    less : 6 + length piece - 6 ≡ length piece
+    less = omega arith
+
+    six : 6 + length piece ≡ suc (suc (suc (suc (suc (suc (length piece))))))
+    six = omega arith
+
+pub scripts-run : ScriptsRun
+scripts-run = record { chain = chained; pieces = pieces-bytes; asks = asked; deliveries = delivered }

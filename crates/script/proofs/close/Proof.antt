@@ -1,0 +1,23 @@
+use Rattle.script.proofs.Stages.{close-stage}
+use borrow.Author.Needs.{needs}
+use Rattle.script.proofs.close.Statement.{statement}
+use Rattle.script.proofs.close.Tie as tie
+use Rattle.script.proofs.close.Reads as reads
+use Rattle.script.proofs.close.Lts as lts
+use Rattle.endpoint.proofs.Record.close.Reads as close-reads
+use Rattle.script.proofs.closing_numbers.Reads as closing-numbers-reads
+
+close-requires : tie.Need-close-requires
+close-requires c κs = search needs
+
+closing-numbers-requires : tie.Need-closing-numbers-requires
+closing-numbers-requires c κs = search needs
+
+same-length : tie.Need-same-length
+same-length c = search needs
+
+returns : tie.Need-returns
+returns c = search (close-stage, needs)
+
+pub close-spec : {M : Type 1} → statement M
+close-spec = tie.close (tie.spec close-requires closing-numbers-requires same-length returns)

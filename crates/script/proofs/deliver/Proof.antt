@@ -1,0 +1,28 @@
+use Rattle.script.proofs.Stages.{deliver-stage}
+use borrow.Author.Needs.{needs}
+use Rattle.script.proofs.deliver.Statement.{statement}
+use Rattle.script.proofs.deliver.Tie as tie
+use Rattle.script.proofs.deliver.Reads as reads
+use Rattle.script.proofs.deliver.Lts as lts
+use Rattle.endpoint.proofs.Record.deliver.Reads as deliver-reads
+use Rattle.script.proofs.delivery_numbers.Reads as delivery-numbers-reads
+
+deliver-requires : tie.Need-deliver-requires
+deliver-requires c κs = search needs
+
+delivery-numbers-requires : tie.Need-delivery-numbers-requires
+delivery-numbers-requires c κs = search needs
+
+same-length : tie.Need-same-length
+same-length c = search needs
+
+same-length-2 : tie.Need-same-length-2
+same-length-2 c = search needs
+
+returns : tie.Need-returns
+returns c = search (deliver-stage, needs)
+
+pub deliver-spec : {M : Type 1} → statement M
+deliver-spec =
+    tie.close
+    (tie.spec deliver-requires delivery-numbers-requires same-length same-length-2 returns)

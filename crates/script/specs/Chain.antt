@@ -1,0 +1,32 @@
+-- The chain from the code to document 01's rules: what a script's calls leave is what the rules over whole messages give.
+use Prim.Native.Nat.{ℕ, _≤_, _<_}
+use mathlib.Core.Path.{_≡_}
+use mathlib.Core.List.{List, [], _∷_, _++_}
+use lib.ListN.{length}
+use Rattle.octets.specs.Numbers.{bytes32, Octets}
+use Rattle.device.specs.declared.Device.{Device}
+use Rattle.stream.specs.Machine.{Held, deliver}
+use Rattle.stream.specs.Promise.{AllBytes}
+use Rattle.stream.specs.Lent.{flat, counted}
+use Rattle.endpoint.specs.State.{stateOf}
+use Rattle.endpoint.specs.declared.Record.{Record}
+use Rattle.promise.specs.Stream.{GoodState, machine, gives}
+use Rattle.script.specs.Script.{numbersOf, stage, callBy, callIn, behind, callsIn, lastOutput, lastAnswer, scriptOf}
+
+pub record ScriptsRun : Type 0 where
+  -- what the code leaves of a script, from a state that keeps the rules: the device of the rules over whole messages, the undecided
+  -- bytes, and the last answer and output that the rules give
+  pub chain : (d : Device) (h : Held) (s output : List ℕ) → GoodState d h → Octets s
+      → let cs = callsIn (stateOf d (counted h 8)) (flat h 8) s output in
+      scriptOf (stateOf d (counted h 8)) (flat h 8) s output
+      ≡ stage (stateOf (machine d h cs .0 .0) (counted (machine d h cs .0 .1) 8)) (flat (machine d h cs .0 .1) 8)
+      (lastOutput output cs (gives d h cs)) (lastAnswer (numbersOf []) (gives d h cs))
+  -- those calls' pieces are bytes, so all that the stream theorem says of calls it says of them
+  pub pieces : (r : Record) (area s output : List ℕ) → Octets s → AllBytes (callsIn r area s output)
+  -- every call can be written: an opening, a closing, a reading or a taking in six bytes
+  pub asks : (kind n value : ℕ) (more output : List ℕ) → kind ≤ 3 → value < 4294967296
+      → (callIn (kind ∷ n ∷ (bytes32 value ++ more)) output ≡ callBy kind n value [] output) × (behind (kind ∷ n ∷ (bytes32 value ++ more)) ≡ more)
+  -- and a delivery with its piece behind them
+  pub deliveries : (kind n : ℕ) (piece more output : List ℕ) → 3 < kind → length piece < 4294967296
+      → (callIn (kind ∷ n ∷ (bytes32 (length piece) ++ (piece ++ more))) output ≡ deliver n piece output)
+      × (behind (kind ∷ n ∷ (bytes32 (length piece) ++ (piece ++ more))) ≡ more)

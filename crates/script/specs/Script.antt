@@ -1,0 +1,99 @@
+-- A script of calls in bytes, run on one record, one area and one output: the run that the stream theorem speaks of, as code.
+use Prim.Native.Nat.{ℕ, zero, suc, _+_, _-_}
+use mathlib.Core.Bool.{Bool, cond}
+use mathlib.Core.List.{List, [], _∷_}
+use lib.ListN.{length, getD, take, drop}
+use lib.Dec.{eqb, ltb, leb}
+use Rattle.octets.specs.Numbers.{be32At}
+use Rattle.stream.specs.Machine.{Call, deliver, ask}
+use Rattle.endpoint.specs.Numbers.{Outcome}
+use Rattle.endpoint.specs.declared.Record.{Record}
+use Rattle.promise.specs.Rules.{Ask, opening, closing, ticking, taking, callOf}
+use Rattle.promise.specs.Stream.{runOf}
+use Rattle.script.specs.declared.Numbers.{Numbers}
+
+-- an answer's numbers, zeros behind them
+unfoldable pub numbersOf : List ℕ → Numbers
+numbersOf a = record { number = getD a 0 0; first = getD a 1 0; second = getD a 2 0; third = getD a 3 0 }
+
+-- how a script stands: the record, the area, the output, and the last call's answer
+pub record Stage : Type 0 where
+  pub state : Record
+  pub area : List ℕ
+  pub output : List ℕ
+  pub answer : Numbers
+
+abbrev pub stage : Record → List ℕ → List ℕ → Numbers → Stage
+stage state area output answer = record { state = state; area = area; output = output; answer = answer }
+
+-- the output once a call is made, which of deliveries and takings alone is lent it
+unfoldable pub outputAfter : Call Ask (List ℕ) → Outcome → List ℕ → List ℕ
+outputAfter (deliver n piece x) o output = o .output
+outputAfter (ask opening) o output = output
+outputAfter (ask (closing n)) o output = output
+outputAfter (ask (ticking reading)) o output = output
+outputAfter (ask (taking x)) o output = o .output
+
+-- how the script stands once a call is made
+unfoldable pub stageOf : Call Ask (List ℕ) → Record → List ℕ → List ℕ → Stage
+stageOf c r area output =
+    stage (callOf r area c .state) (callOf r area c .area) (outputAfter c (callOf r area c) output) (numbersOf (callOf r area c .answer))
+
+-- ---- how calls are written: a kind, a connection's number, a number of 32 bits, and a delivery's piece
+
+-- 0 opens, 1 closes that connection, 2 is a clock reading, 3 takes; any other delivers to that connection
+unfoldable pub callBy : ℕ → ℕ → ℕ → List ℕ → List ℕ → Call Ask (List ℕ)
+callBy kind n value piece output =
+    cond (eqb kind 0) (ask opening)
+    (cond (eqb kind 1) (ask (closing n))
+    (cond (eqb kind 2) (ask (ticking value))
+    (cond (eqb kind 3) (ask (taking output))
+    (deliver n piece output))))
+
+abbrev pub headBytes : ℕ
+headBytes = 6
+
+-- how many bytes the first call of a script has: a delivery's piece is as long as its number says, or as what is left
+unfoldable pub firstSize : List ℕ → ℕ
+firstSize s =
+    cond (leb (getD s 0 0) 3) headBytes
+    (cond (ltb (length s) (headBytes + be32At s 2)) (length s) (headBytes + be32At s 2))
+
+-- the first call of a script, lent this output
+unfoldable pub callIn : List ℕ → List ℕ → Call Ask (List ℕ)
+callIn s output = callBy (getD s 0 0) (getD s 1 0) (be32At s 2) (take (firstSize s - headBytes) (drop headBytes s)) output
+
+-- the script behind its first call
+unfoldable pub behind : List ℕ → List ℕ
+behind s = drop (firstSize s) s
+
+-- a script's calls, at most so many, each lent the output as the one before left it; fewer than six bytes are no call
+unfoldable pub callsFrom : ℕ → Record → List ℕ → List ℕ → List ℕ → List (Call Ask (List ℕ))
+callsFrom zero r area s output = []
+callsFrom (suc k) r area s output =
+    cond (ltb (length s) headBytes) []
+    (callIn s output ∷ callsFrom k (callOf r area (callIn s output) .state) (callOf r area (callIn s output) .area) (behind s)
+    (outputAfter (callIn s output) (callOf r area (callIn s output)) output))
+
+-- all of them: each has a byte at least
+unfoldable pub callsIn : Record → List ℕ → List ℕ → List ℕ → List (Call Ask (List ℕ))
+callsIn r area s output = callsFrom (length s) r area s output
+
+-- the output and the answer that a run leaves
+unfoldable pub lastOutput : List ℕ → List (Call Ask (List ℕ)) → List Outcome → List ℕ
+lastOutput output [] os = output
+lastOutput output (c ∷ cs) [] = output
+lastOutput output (c ∷ cs) (o ∷ os) = lastOutput (outputAfter c o output) cs os
+
+unfoldable pub lastAnswer : Numbers → List Outcome → Numbers
+lastAnswer a [] = a
+lastAnswer a (o ∷ os) = lastAnswer (numbersOf (o .answer)) os
+
+-- how a run of these calls ends
+unfoldable pub endOf : List (Call Ask (List ℕ)) → Record → List ℕ → List ℕ → Numbers → Stage
+endOf cs r area output a =
+    stage (runOf r area cs .0 .0) (runOf r area cs .0 .1) (lastOutput output cs (runOf r area cs .1)) (lastAnswer a (runOf r area cs .1))
+
+-- THE SCRIPT: the run of its calls
+unfoldable pub scriptOf : Record → List ℕ → List ℕ → List ℕ → Stage
+scriptOf r area s output = endOf (callsIn r area s output) r area output (numbersOf [])
