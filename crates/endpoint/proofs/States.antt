@@ -22,7 +22,7 @@ use Rattle.device.specs.declared.Opening.the-variants as opening
 use Rattle.device.specs.declared.Ticked.{Ticked}
 use Rattle.device.specs.declared.Ticking.the-variants as ticking
 use Rattle.endpoint.specs.State.{stateOf, livesIn, recordObeys, closedState}
-use Rattle.endpoint.specs.Numbers.{badRecord, badArea, noConnection, tableFull, clockBack, overrun, outcome, refused}
+use Rattle.endpoint.specs.Numbers.{badRecord, badArea, noConnection, tableFull, clockBack, overrun, Outcome, outcome, refused}
 use Rattle.endpoint.specs.Calls.{clearAnswer, clearedArea, openedBy, openCall, closeCall, tickedBy, tickCall}
 use Rattle.endpoint.specs.declared.Record.{Record}
 
@@ -77,6 +77,25 @@ pub clear-done : (area next : List ℕ) → length area ≡ areaBytes → next �
 unfolding clearAnswer clearedArea
 clear-done area next h q = simp (eq-eqb (length area) areaBytes h) (refl, q ∙ ap zeros h)
 
+-- k is the device ticked
+module _ (r : Record) (area : List ℕ) (reading : ℕ) (k : Ticked) (q : k ≡ tickOf (r .device) reading) where
+  abbrev After : Outcome
+  After = tickedBy (tickOf (r .device) reading .answer) r (tickOf (r .device) reading) area
+
+  pub tick-closed : (mask : ℕ) → k .answer ≡ ticking.Closed mask
+      → (lives : List Bool) (held next : List ℕ) → lives ≡ livesIn (k .device) → held ≡ heldKept lives (r .held) → next ≡ closedCleared lives area
+      → outcome (0 ∷ mask ∷ []) (stateOf (k .device) held) next [] ≡ After
+  unfolding tickedBy
+  tick-closed mask a lives held next x y z = rw (← q, a, y, z, x)
+
+  pub tick-back : k .answer ≡ ticking.ClockBack → refused clockBack r area [] ≡ After
+  unfolding tickedBy
+  tick-back a = rw (← q, a)
+
+  pub tick-over : k .answer ≡ ticking.Overrun → refused overrun r area [] ≡ After
+  unfolding tickedBy
+  tick-over a = rw (← q, a)
+
 -- b is what the call that tests the record gave
 module _ (r : Record) (b : Bool) (tested : b ≡ recordObeys r) where
   pub open-bad : not b ≡ true → refused badRecord r [] [] ≡ openCall r
@@ -126,16 +145,7 @@ module _ (r : Record) (b : Bool) (tested : b ≡ recordObeys r) where
       unfolding closeCall
       close-done n l q v z next x y = rw (← tested, not-false b t, sound, not-false s u, ← q, not-false l v, x, y)
 
-      pub tick-closed : (reading : ℕ) (k : Ticked) (mask : ℕ) → k ≡ tickOf (r .device) reading → k .answer ≡ ticking.Closed mask
-          → (lives : List Bool) (held next : List ℕ) → lives ≡ livesIn (k .device) → held ≡ heldKept lives (r .held) → next ≡ closedCleared lives area
-          → outcome (0 ∷ mask ∷ []) (stateOf (k .device) held) next [] ≡ tickCall r area reading
-      unfolding tickCall tickedBy
-      tick-closed reading k mask q a lives held next x y z = rw (← tested, not-false b t, sound, not-false s u, ← q, a, y, z, x)
-
-      pub tick-back : (reading : ℕ) (k : Ticked) → k ≡ tickOf (r .device) reading → k .answer ≡ ticking.ClockBack → refused clockBack r area [] ≡ tickCall r area reading
-      unfolding tickCall tickedBy
-      tick-back reading k q a = rw (← tested, not-false b t, sound, not-false s u, ← q, a)
-
-      pub tick-over : (reading : ℕ) (k : Ticked) → k ≡ tickOf (r .device) reading → k .answer ≡ ticking.Overrun → refused overrun r area [] ≡ tickCall r area reading
-      unfolding tickCall tickedBy
-      tick-over reading k q a = rw (← tested, not-false b t, sound, not-false s u, ← q, a)
+      pub tick-passed : (reading : ℕ) (o : Outcome) → o ≡ tickedBy (tickOf (r .device) reading .answer) r (tickOf (r .device) reading) area
+          → o ≡ tickCall r area reading
+      unfolding tickCall
+      tick-passed reading o q = rw (← tested, not-false b t, sound, not-false s u) q

@@ -4,9 +4,12 @@ use device::Device;
 ghost use mathlib.Core.Path.{_≡_};
 ghost use mathlib.Core.List.{[]};
 ghost use Prim.Native.Nat.{_<_};
+ghost use lib.ListN.{length};
+ghost use Rattle.area.specs.Area.{areaBytes};
+ghost use Rattle.device.specs.Time.{tickOf};
 ghost use Rattle.endpoint.specs.State.{freshState, livesIn, recordObeys, closedState};
 ghost use Rattle.endpoint.specs.Numbers.{clearingNumbers, openingNumbers, closingNumbers, tickingNumbers, outcome};
-ghost use Rattle.endpoint.specs.Calls.{clearAnswer, clearedArea, openCall, closeCall, tickCall};
+ghost use Rattle.endpoint.specs.Calls.{clearAnswer, clearedArea, openCall, closeCall, tickedBy, tickCall};
 ghost use Rattle.endpoint.specs.Tell.{AnswersTell};
 
 pub mod deliver;
@@ -215,23 +218,12 @@ impl Record {
         }
     }
 
-    // Time passes, to a reading of the host's counter.
-    pub fn tick(mut self, area: &mut [u8], reading: u32) -> Ticked
-        ensures { λ r. ⌜ outcome (tickingNumbers (r .answer)) (r .state) (now (area .exit)) [] ≡ tickCall self (now (area .entry)) reading ⌝ }
+    // Time passes for a record and an area that are not refused.
+    fn pass(mut self, area: &mut [u8], reading: u32) -> Ticked
+        requires { ⌜ length (now area) ≡ areaBytes ⌝ }
+        ensures { λ r. ⌜ outcome (tickingNumbers (r .answer)) (r .state) (now (area .exit)) [] ≡ tickedBy (tickOf (self .device) reading .answer) self (tickOf (self .device) reading) (now (area .entry)) ⌝ }
     {
-        if !self.obeys() {
-            return Ticked {
-                state: self,
-                answer: Ticking::BadRecord,
-            };
-        }
         let held = self.held;
-        if !area::area_sound(&area[0..], held) {
-            return Ticked {
-                state: self,
-                answer: Ticking::BadArea,
-            };
-        }
         let device = self.device;
         let ticked = device.tick(reading);
         let answer = ticked.answer;
@@ -257,6 +249,26 @@ impl Record {
                 answer: Ticking::Overrun,
             },
         }
+    }
+
+    // Time passes, to a reading of the host's counter.
+    pub fn tick(self, area: &mut [u8], reading: u32) -> Ticked
+        ensures { λ r. ⌜ outcome (tickingNumbers (r .answer)) (r .state) (now (area .exit)) [] ≡ tickCall self (now (area .entry)) reading ⌝ }
+    {
+        if !self.obeys() {
+            return Ticked {
+                state: self,
+                answer: Ticking::BadRecord,
+            };
+        }
+        let held = self.held;
+        if !area::area_sound(&area[0..], held) {
+            return Ticked {
+                state: self,
+                answer: Ticking::BadArea,
+            };
+        }
+        self.pass(area, reading)
     }
 }
 

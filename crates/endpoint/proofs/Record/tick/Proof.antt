@@ -1,7 +1,7 @@
 use denote.Ref.{now}
 use Rattle.laws.proofs.Parts.{rest}
 use Rattle.endpoint.specs.Numbers.{tickingNumbers}
-use Rattle.endpoint.proofs.States.{tick-bad, tick-area, tick-closed, tick-back, tick-over, sound-long}
+use Rattle.endpoint.proofs.States.{tick-bad, tick-area, tick-passed, sound-long}
 use borrow.Author.Needs.{needs}
 use Rattle.endpoint.proofs.Record.tick.Statement.{statement}
 use Rattle.endpoint.proofs.Record.tick.Tie as tie
@@ -37,30 +37,12 @@ returns-2 c =
     let u = c .before .before .before .before .before in
     tick-area (a .self) _ (u .before .obeys .ensures) (u .if1 .left) (now (a .area)) _ (rest 0 (now (a .area))) _ (c .before .area-sound .ensures) (c .if2 .taken) (a .reading)
 
-tick-requires : tie.Need-tick-requires
-tick-requires c κs = search needs
-
-enum-known-answer : tie.Need-enum-known-answer
-enum-known-answer c = search needs
-
-lives-requires : tie.Need-lives-requires
-lives-requires c κs = search needs
-
-clear-closed-requires : tie.Need-clear-closed-requires
-clear-closed-requires c κs =
-    let a = c .before .before .before .before .before .before .before .before .before .before .before .before .before .before .before .before .args in
-    let u = c .before .before .before .before .before .before .before .before .before .before .before .before .before in
-    let v = c .before .before .before .before .before .before .before .before in
+pass-requires : tie.Need-pass-requires
+pass-requires c κs =
+    let a = c .before .before .before .before .before .before .before .before .before .args in
+    let u = c .before .before .before .before .before .before in
+    let v = c .before in
     sound-long (a .self) _ (u .before .obeys .ensures) (u .if1 .left) (now (a .area)) _ (rest 0 (now (a .area))) _ (v .before .area-sound .ensures) (v .if2 .left)
-
-held-kept-requires : tie.Need-held-kept-requires
-held-kept-requires c κs = search needs
-
-enum-told : tie.Need-enum-told
-enum-told c = search needs
-
-enum-told-2 : tie.Need-enum-told-2
-enum-told-2 c = search needs
 
 same-length-2 : tie.Need-same-length-2
 same-length-2 c = search needs
@@ -68,35 +50,10 @@ same-length-2 c = search needs
 returns-3 : tie.Need-returns-3
 unfolding tickingNumbers
 returns-3 c =
-    let a = c .before .before .before .before .before .before .before .before .before .before .before .before .before .before .before .before .before .before .before .before .args in
-    let u = c .before .before .before .before .before .before .before .before .before .before .before .before .before .before .before .before .before in
-    let v = c .before .before .before .before .before .before .before .before .before .before .before .before in
-    let t = c .before .before .before .before .before .before .before .before .before .before .tick in
-    tick-closed (a .self) _ (u .before .obeys .ensures) (u .if1 .left) (now (a .area)) _ (rest 0 (now (a .area))) _ (v .before .area-sound .ensures) (v .if2 .left) (a .reading) (t .result) _ (t .ensures) (c .before .before .before .before .before .before .before .before .answer .given .1) _ _ _ (c .before .before .before .before .before .lives .ensures) (c .held-kept .ensures) (c .before .before .before .clear-closed .ensures)
-
-same-length-3 : tie.Need-same-length-3
-same-length-3 c = search needs
-
-returns-4 : tie.Need-returns-4
-unfolding tickingNumbers
-returns-4 c =
     let a = c .before .before .before .before .before .before .before .before .before .before .before .before .args in
     let u = c .before .before .before .before .before .before .before .before .before in
     let v = c .before .before .before .before in
-    let t = c .before .before .tick in
-    tick-back (a .self) _ (u .before .obeys .ensures) (u .if1 .left) (now (a .area)) _ (rest 0 (now (a .area))) _ (v .before .area-sound .ensures) (v .if2 .left) (a .reading) (t .result) (t .ensures) (c .enum-told .given .1)
-
-same-length-4 : tie.Need-same-length-4
-same-length-4 c = search needs
-
-returns-5 : tie.Need-returns-5
-unfolding tickingNumbers
-returns-5 c =
-    let a = c .before .before .before .before .before .before .before .before .before .before .before .before .args in
-    let u = c .before .before .before .before .before .before .before .before .before in
-    let v = c .before .before .before .before in
-    let t = c .before .before .tick in
-    tick-over (a .self) _ (u .before .obeys .ensures) (u .if1 .left) (now (a .area)) _ (rest 0 (now (a .area))) _ (v .before .area-sound .ensures) (v .if2 .left) (a .reading) (t .result) (t .ensures) (c .enum-told2 .given .1)
+    tick-passed (a .self) _ (u .before .obeys .ensures) (u .if1 .left) (now (a .area)) _ (rest 0 (now (a .area))) _ (v .before .area-sound .ensures) (v .if2 .left) (a .reading) _ (c .before .before .pass .ensures)
 
 pub tick-spec : {M : Type 1} → statement M
 tick-spec =
@@ -110,16 +67,6 @@ tick-spec =
     area-sound-requires
     same-length
     returns-2
-    tick-requires
-    enum-known-answer
-    lives-requires
-    clear-closed-requires
-    held-kept-requires
-    enum-told
-    enum-told-2
+    pass-requires
     same-length-2
-    returns-3
-    same-length-3
-    returns-4
-    same-length-4
-    returns-5)
+    returns-3)
