@@ -17,6 +17,11 @@ pub cond-right : {A : Type 0} (b : Bool) (x y z : A) → cond b x y ≡ z → (x
 cond-right true x y z e n = absurd (n e)
 cond-right false x y z e n = (refl, e)
 
+-- what holds of both branches holds of the test's
+pub either : {A : Type 0} (P : A → Type 0) (b : Bool) (x y : A) → P x → P y → P (cond b x y)
+either P true x y p q = p
+either P false x y p q = q
+
 pub and-left : (a b : Bool) → (a && b) ≡ true → a ≡ true
 and-left true b e = refl
 and-left false b e = e

@@ -11,7 +11,7 @@ use lib.Seq.{getD-set-other, map-set-same}
 use borrow.Author.Tests.{eqb-true, eqb-false, eq-eqb, ne-eqb, le-leb, lt-leb, not-true, not-false}
 use Rattle.laws.specs.Lists.{all, any, index, mask}
 use Rattle.laws.proofs.Tables.{clash}
-use Rattle.laws.proofs.Conds.{and-left, and-right}
+use Rattle.laws.proofs.Conds.{and-left, and-right, either}
 use Rattle.frame.specs.Decide.{decide, settled}
 use Rattle.frame.proofs.Ways.{unsettled}
 use Rattle.frame.specs.declared.Decision.{Decision}
@@ -261,11 +261,6 @@ reading-shut d k = refl
 length-shut : (d : Device) (k : ℕ) → length (closeOf d k .connections) ≡ length (d .connections)
 unfolding closeOf sweepOf
 length-shut d k = length-set (d .connections) k closed
-
--- what holds of both branches holds of the test's
-either : {A : Type 0} (P : A → Type 0) (b : Bool) (x y : A) → P x → P y → P (cond b x y)
-either P true x y p q = p
-either P false x y p q = q
 
 -- connection n is as open and as silent as it was, with its H and its locks
 record Same (n : ℕ) (d e : Device) : Type 0 where

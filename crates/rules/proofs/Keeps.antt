@@ -8,6 +8,7 @@ use borrow.Author.Tests.{le-leb}
 use lib.Dec.{eqb, ltb}
 use lib.ListN.{length, drop, getD, length-map, List·getD-map}
 use lib.Seq.{map-set-same}
+use Rattle.laws.proofs.Conds.{either}
 use Rattle.octets.specs.Numbers.{be16At, be32At, Octets}
 use Rattle.octets.proofs.Digits.{be16-small, octets-drop}
 use Rattle.heartbeat.specs.Beat.{formOf, beatOf as inMilliseconds}
@@ -33,11 +34,6 @@ use Rattle.device.proofs.Keeps.{rules-kept}
 use Rattle.serve.specs.Serve.{ranWith, ranFirst, lastOf}
 use Rattle.rules.specs.Rule.{Ruled, commandsOf, beatOf, soundOf}
 use Rattle.rules.specs.Kept.{livingOf, SoundKept}
-
--- what holds of both branches holds of the test's
-either : {A : Type 0} (P : A → Type 0) (b : Bool) (x y : A) → P x → P y → P (cond b x y)
-either P true x y p q = p
-either P false x y p q = q
 
 -- ---- a command leaves the connections as they are
 cond-connections : (b : Bool) (x y : Device) → cond b x y .connections ≡ cond b (x .connections) (y .connections)
