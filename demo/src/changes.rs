@@ -1,0 +1,249 @@
+//! What a call changed, told by the record before it and after it.
+
+use crate::events::{Beat, Event, Left, Why};
+use crate::words;
+use compare::record::{CONNECTIONS, Connection, MUTES, Record, Subscription};
+
+/// What a sound message of connection n changed.
+pub fn heard(n: u8, before: &Record, after: &Record) -> Vec<Event> {
+    let mut events = supervision(n, &connection(before, n), &connection(after, n));
+    events.extend((0..MUTES).filter_map(|k| lock(n, k, before, after)));
+    events.extend((0..MUTES).filter_map(|k| set(n, k, before, after)));
+    let entries = before.device.subscriptions.iter();
+    let entries = entries.zip(&after.device.subscriptions);
+    events.extend(entries.flat_map(|(was, is)| subscription(n, was, is)));
+    events
+}
+
+/// What a tick changed; bit n of `closed` is set for connection n closed.
+pub fn lapsed(before: &Record, after: &Record, closed: u8) -> Vec<Event> {
+    let reading = after.device.reading;
+    let step = u64::from(reading.wrapping_sub(before.device.reading));
+    let lapse = |n: u8| {
+        let was = connection(before, n);
+        if closed & (1 << n) != 0 {
+            let silence = was.silence + step;
+            let beat = beat(&was);
+            return Some(self::closed(n, Why::Silence { silence, beat }, before));
+        }
+        let is = connection(after, n);
+        let since = reading.wrapping_sub(is.silence as u32);
+        (!misses(&was) && misses(&is)).then_some(Event::Silent { n, since })
+    };
+    (0..CONNECTIONS as u8).filter_map(lapse).collect()
+}
+
+/// The closure of a connection that was open before. A fault decided what was undecided.
+pub fn closed(n: u8, why: Why, before: &Record) -> Event {
+    let holders = &before.device.holders;
+    let left = Left {
+        undecided: match why {
+            Why::Fault(_) => 0,
+            _ => before.held[usize::from(n)],
+        },
+        freed: (0..MUTES)
+            .filter(|k| holders[*k] == n + 1)
+            .map(counted)
+            .collect(),
+    };
+    Event::Closed { n, why, left }
+}
+
+/// The notification that was taken: that of the entry which waits no longer.
+pub fn notified(n: u8, before: &Record, after: &Record) -> Option<Event> {
+    let entries = before.device.subscriptions.iter();
+    let mut entries = entries.zip(&after.device.subscriptions);
+    let (was, _) = entries.find(|(was, is)| was.waiting && !is.waiting)?;
+    let mute = words::mute_of_object(was.emitter);
+    let value = *after.device.mutes.get(usize::from(mute).checked_sub(1)?)?;
+    Some(Event::Notified { n, mute, value })
+}
+
+/// The keep-alive that was taken.
+pub fn kept_alive(n: u8, record: &Record) -> Event {
+    let beat = beat(&connection(record, n));
+    Event::KeptAlive { n, beat }
+}
+
+fn connection(record: &Record, n: u8) -> Connection {
+    record.device.connections[usize::from(n)]
+}
+
+fn beat(connection: &Connection) -> Beat {
+    Beat {
+        form: connection.form,
+        milliseconds: connection.beat,
+    }
+}
+
+/// Mutes are counted from 1.
+fn counted(k: usize) -> u8 {
+    k as u8 + 1
+}
+
+/// Two heartbeats of silence: one was surely missed, whatever its delay.
+fn misses(connection: &Connection) -> bool {
+    connection.beat > 0 && connection.silence >= 2 * connection.beat
+}
+
+fn supervision(n: u8, was: &Connection, is: &Connection) -> Vec<Event> {
+    let mut events = Vec::new();
+    if misses(was) && !misses(is) {
+        events.push(Event::HeardAgain { n });
+    }
+    if beat(was) != beat(is) {
+        events.push(match beat(is) {
+            Beat {
+                milliseconds: 0, ..
+            } => Event::Unwatched { n },
+            beat => Event::Watched { n, beat },
+        });
+    }
+    events
+}
+
+fn lock(n: u8, k: usize, before: &Record, after: &Record) -> Option<Event> {
+    let mute = counted(k);
+    match (before.device.holders[k], after.device.holders[k]) {
+        (was, is) if was == is => None,
+        (_, 0) => Some(Event::Unlocked { n, mute }),
+        _ => Some(Event::Locked { n, mute }),
+    }
+}
+
+fn set(n: u8, k: usize, before: &Record, after: &Record) -> Option<Event> {
+    let value = after.device.mutes[k];
+    let mute = counted(k);
+    (before.device.mutes[k] != value).then_some(Event::Set { n, mute, value })
+}
+
+/// An entry may be left and taken again within one message.
+fn subscription(n: u8, was: &Subscription, is: &Subscription) -> Vec<Event> {
+    let name = |entry: &Subscription| (entry.used, entry.emitter, entry.object, entry.method);
+    let mut events = Vec::new();
+    if name(was) == name(is) {
+        return events;
+    }
+    if was.used {
+        let mute = words::mute_of_object(was.emitter);
+        events.push(Event::Unsubscribed { n, mute });
+    }
+    if is.used {
+        let mute = words::mute_of_object(is.emitter);
+        events.push(Event::Subscribed { n, mute });
+    }
+    events
+}
+
+#[cfg(test)]
+mod tests {
+    use super::*;
+
+    /// Connection 2 is open with a heartbeat of 2 s.
+    fn record() -> Record {
+        let mut record = Record::default();
+        record.device.mutes = [2; MUTES];
+        record.device.connections[2] = Connection {
+            live: true,
+            form: 1,
+            beat: 2_000,
+            ..Connection::default()
+        };
+        record
+    }
+
+    fn entry(emitter: u32) -> Subscription {
+        Subscription {
+            used: true,
+            connection: 2,
+            emitter,
+            ..Subscription::default()
+        }
+    }
+
+    fn told(events: &[Event]) -> Vec<String> {
+        events.iter().map(Event::to_string).collect()
+    }
+
+    #[test]
+    fn nothing_changed_is_nothing_told() {
+        assert!(heard(2, &record(), &record()).is_empty());
+        assert!(lapsed(&record(), &record(), 0).is_empty());
+    }
+
+    #[test]
+    fn a_message_may_change_much() {
+        let mut before = record();
+        before.device.holders[0] = 3;
+        before.device.subscriptions[0] = entry(4_097);
+        before.device.connections[2].silence = 4_000;
+        let mut after = record();
+        after.device.connections[2].form = 2;
+        after.device.holders[4] = 3;
+        after.device.mutes[4] = 1;
+        after.device.subscriptions[0] = entry(4_101);
+        let lines = [
+            "connection 2 heard again",
+            "connection 2 set its heartbeat to 2000 ms: closed after 6000 ms of silence",
+            "connection 2 unlocked mute 1",
+            "connection 2 locked mute 5",
+            "connection 2 muted mute 5",
+            "connection 2 unsubscribed from mute 1",
+            "connection 2 subscribed to mute 5",
+        ];
+        assert_eq!(told(&heard(2, &before, &after)), lines);
+    }
+
+    #[test]
+    fn supervision_may_be_stopped() {
+        let mut after = record();
+        after.device.connections[2].beat = 0;
+        after.device.connections[2].form = 0;
+        let lines = ["connection 2 set its heartbeat to 0: not supervised"];
+        assert_eq!(told(&heard(2, &record(), &after)), lines);
+    }
+
+    /// Silence is told once, at two heartbeats.
+    #[test]
+    fn a_tick_tells_silence_once() {
+        let at = |reading, silence| {
+            let mut record = record();
+            record.device.reading = reading;
+            record.device.connections[2].silence = silence;
+            record
+        };
+        let lines = ["connection 2 silent since 10 ms"];
+        assert!(lapsed(&at(4_000, 3_990), &at(4_009, 3_999), 0).is_empty());
+        assert_eq!(
+            told(&lapsed(&at(4_009, 3_999), &at(4_010, 4_000), 0)),
+            lines
+        );
+        assert!(lapsed(&at(4_010, 4_000), &at(4_011, 4_001), 0).is_empty());
+    }
+
+    #[test]
+    fn a_closing_tick_tells_what_is_free() {
+        let mut before = record();
+        before.device.reading = u32::MAX;
+        before.device.connections[2].silence = 5_999;
+        before.device.holders = [0, 3, 1, 0, 3, 0, 0, 0];
+        before.held[2] = 1;
+        let after = Record::default();
+        let line = "closed connection 2: nothing heard for 6000 ms (3 x 2 s); \
+                    1 undecided byte dropped; mutes 2, 5 are free";
+        assert_eq!(told(&lapsed(&before, &after, 0b100)), [line]);
+    }
+
+    #[test]
+    fn a_notification_is_of_the_entry_that_waited() {
+        let mut before = record();
+        before.device.mutes[6] = 1;
+        before.device.subscriptions[3] = entry(4_103);
+        let after = before;
+        before.device.subscriptions[3].waiting = true;
+        let event = notified(2, &before, &after).unwrap();
+        let line = "notified connection 2: mute 7 is muted";
+        assert_eq!(event.to_string(), line);
+        assert_eq!(notified(2, &after, &after), None);
+    }
+}

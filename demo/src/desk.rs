@@ -1,0 +1,279 @@
+//! The owner of the amplifier: one thread that holds record, area and clock,
+//! and makes every call.
+
+use crate::amplifier::Amplifier;
+use crate::clock::Clock;
+use crate::events::{Event, Why};
+use crate::socket::{Heard, Socket, What};
+use compare::record::CONNECTIONS;
+use std::fmt::Display;
+use std::io::{self, Write};
+use std::net::{TcpListener, TcpStream};
+use std::sync::atomic::{AtomicBool, Ordering};
+use std::sync::mpsc::{self, Receiver, SyncSender};
+use std::thread::JoinHandle;
+use std::time::Duration;
+
+/// The longest wait: an interrupt and an arrival are seen after it.
+const TURN: Duration = Duration::from_millis(50);
+/// How many pieces may wait for the owner.
+const WAITING: usize = 16;
+
+/// An amplifier on the desk. Its lines are written to `lines`.
+#[derive(Debug)]
+pub struct Desk<W> {
+    listener: TcpListener,
+    clock: Clock,
+    amplifier: Amplifier,
+    sockets: [Option<Socket>; CONNECTIONS],
+    /// Readers of closed sockets that have not ended yet.
+    ending: Vec<JoinHandle<()>>,
+    serial: u64,
+    inbox: Receiver<Heard>,
+    outside: SyncSender<Heard>,
+    lines: W,
+}
+
+impl<W: Write> Desk<W> {
+    pub fn new(listener: TcpListener, clock: Clock, lines: W) -> io::Result<Desk<W>> {
+        listener.set_nonblocking(true)?;
+        let (outside, inbox) = mpsc::sync_channel(WAITING);
+        Ok(Desk {
+            listener,
+            clock,
+            amplifier: Amplifier::fresh(clock.reading())?,
+            sockets: Default::default(),
+            ending: Vec::new(),
+            serial: 0,
+            inbox,
+            outside,
+            lines,
+        })
+    }
+
+    /// Runs until the stop is set, and then ends everything that it started.
+    pub fn run(mut self, stop: &AtomicBool) -> io::Result<()> {
+        let turned = self.turns(stop);
+        let closed = self.close_all();
+        let Desk { inbox, ending, .. } = self;
+        // readers that wait to hand over find nobody, and end
+        drop(inbox);
+        let joined = ending.into_iter().map(JoinHandle::join);
+        let joined = joined.fold(Ok(()), Result::and);
+        turned.and(closed)?;
+        joined.map_err(|_| io::Error::other("a reading thread panicked"))
+    }
+
+    fn turns(&mut self, stop: &AtomicBool) -> io::Result<()> {
+        let address = self.listener.local_addr()?;
+        self.say(format_args!("listening on {address}"))?;
+        while !stop.load(Ordering::Relaxed) {
+            self.turn()?;
+        }
+        Ok(())
+    }
+
+    /// Time comes before what was heard, so that silence ends where it was heard.
+    fn turn(&mut self) -> io::Result<()> {
+        let arrived = self.admit()?;
+        let wait = if arrived { Duration::ZERO } else { self.wait() };
+        let heard = self.inbox.recv_timeout(wait);
+        self.tick()?;
+        match heard {
+            Ok(heard) => self.hear(heard),
+            Err(_) => Ok(()),
+        }
+    }
+
+    /// Until something is due, but no longer than a turn.
+    fn wait(&self) -> Duration {
+        let due = self.amplifier.next_due().map(Duration::from_millis);
+        due.map_or(TURN, |due| due.min(TURN))
+    }
+
+    /// Takes one arrival, if there is one.
+    fn admit(&mut self) -> io::Result<bool> {
+        self.ending.retain(|reader| !reader.is_finished());
+        // no more threads than twice the connections
+        if self.ending.len() >= CONNECTIONS {
+            return Ok(false);
+        }
+        match self.listener.accept() {
+            Ok((stream, _)) => self.open(stream).map(|()| true),
+            // nobody is there, or left again before the door was opened
+            Err(_) => Ok(false),
+        }
+    }
+
+    /// Leaving the stream closes it: that is how a ninth is refused.
+    fn open(&mut self, stream: TcpStream) -> io::Result<()> {
+        self.tick()?;
+        let Some(n) = self.amplifier.open()? else {
+            return self.say(Event::Full);
+        };
+        self.say(Event::Opened { n })?;
+        self.serial += 1;
+        match Socket::start(stream, self.serial, self.outside.clone()) {
+            Ok(socket) => self.sockets[usize::from(n)] = Some(socket),
+            Err(_) => self.close(n, Why::Broken)?,
+        }
+        Ok(())
+    }
+
+    fn tick(&mut self) -> io::Result<()> {
+        let events = self.amplifier.tick(self.clock.reading())?;
+        self.tell(&events)?;
+        self.send_all()
+    }
+
+    fn hear(&mut self, heard: Heard) -> io::Result<()> {
+        let of = |socket: &Option<Socket>| {
+            let serial = socket.as_ref().map(|socket| socket.serial);
+            serial == Some(heard.serial)
+        };
+        // what comes late from a closed socket belongs to nobody
+        let Some(n) = self.sockets.iter().position(of) else {
+            return Ok(());
+        };
+        match heard.what {
+            What::Piece(bytes) => self.deliver(n as u8, &bytes),
+            What::Gone(why) => self.close(n as u8, why),
+        }
+    }
+
+    /// Offers the rest again until all is taken or the connection is closed.
+    fn deliver(&mut self, n: u8, bytes: &[u8]) -> io::Result<()> {
+        let mut rest = bytes;
+        while !rest.is_empty() && self.sockets[usize::from(n)].is_some() {
+            let delivery = self.amplifier.deliver(n, rest)?;
+            rest = &rest[delivery.taken..];
+            self.tell(&delivery.events)?;
+            if !delivery.closed {
+                self.send(n, delivery.reply)?;
+            }
+            self.send_all()?;
+        }
+        Ok(())
+    }
+
+    /// Takes until nothing is left to send.
+    fn send_all(&mut self) -> io::Result<()> {
+        while let Some(sending) = self.amplifier.take()? {
+            if self.send(sending.n, sending.length)? {
+                self.tell(sending.event.as_slice())?;
+            }
+        }
+        Ok(())
+    }
+
+    /// Sends the front of the output; a socket that does not take it is closed.
+    fn send(&mut self, n: u8, length: usize) -> io::Result<bool> {
+        let socket = &mut self.sockets[usize::from(n)];
+        let bytes = self.amplifier.output(length);
+        match socket.as_mut().map_or(Ok(()), |socket| match bytes {
+            [] => Ok(()),
+            _ => socket.send(bytes),
+        }) {
+            Ok(()) => Ok(true),
+            Err(why) => self.close(n, why).map(|()| false),
+        }
+    }
+
+    fn close(&mut self, n: u8, why: Why) -> io::Result<()> {
+        let event = self.amplifier.close(n, why)?;
+        self.tell(&[event])
+    }
+
+    fn close_all(&mut self) -> io::Result<()> {
+        for n in 0..CONNECTIONS {
+            if self.sockets[n].is_some() {
+                self.close(n as u8, Why::Ending)?;
+            }
+        }
+        self.say("ended")
+    }
+
+    /// A line for each event; a closure also hangs up.
+    fn tell(&mut self, events: &[Event]) -> io::Result<()> {
+        for event in events {
+            if let Event::Closed { n, .. } = event {
+                let socket = self.sockets[usize::from(*n)].take();
+                self.ending.extend(socket.map(Socket::hang_up));
+            }
+            self.say(event)?;
+        }
+        Ok(())
+    }
+
+    /// The time is the amplifier's: the reading of its last tick.
+    fn say(&mut self, what: impl Display) -> io::Result<()> {
+        let reading = self.amplifier.record().device.reading;
+        writeln!(self.lines, "{reading:>8} ms  {what}")?;
+        self.lines.flush()
+    }
+}
+
+#[cfg(test)]
+mod tests {
+    use super::*;
+    use crate::message::{self, Asking};
+    use std::net::Ipv4Addr;
+    use std::time::Instant;
+
+    fn desk() -> Desk<Vec<u8>> {
+        let listener = TcpListener::bind((Ipv4Addr::LOCALHOST, 0)).unwrap();
+        Desk::new(listener, Clock::starting_at(0), Vec::new()).unwrap()
+    }
+
+    fn arrive(desk: &mut Desk<Vec<u8>>) -> TcpStream {
+        let address = desk.listener.local_addr().unwrap();
+        let stream = TcpStream::connect(address).unwrap();
+        while !desk.admit().unwrap() {}
+        stream
+    }
+
+    fn piece(serial: u64, bytes: &[u8]) -> Heard {
+        let what = What::Piece(bytes.to_vec());
+        Heard { serial, what }
+    }
+
+    /// A number is given again while pieces of its last connection still wait.
+    #[test]
+    fn late_pieces_of_a_closed_connection_belong_to_nobody() {
+        let mut desk = desk();
+        let _first = arrive(&mut desk);
+        let lock = message::command(7, Asking::Lock, 5).unwrap();
+        desk.hear(piece(1, &[0])).unwrap();
+        let _second = arrive(&mut desk);
+        desk.hear(piece(1, &lock)).unwrap();
+        let what = What::Gone(Why::HungUp);
+        desk.hear(Heard { serial: 1, what }).unwrap();
+        assert_eq!(desk.amplifier.record().device.holders[4], 0);
+        assert!(desk.amplifier.record().device.connections[0].live);
+        desk.hear(piece(2, &lock)).unwrap();
+        assert_eq!(desk.amplifier.record().device.holders[4], 1);
+    }
+
+    /// It waits for what is due, and does not turn round and round before.
+    #[test]
+    fn a_turn_waits() {
+        let mut desk = desk();
+        assert_eq!(desk.wait(), TURN);
+        let _stream = arrive(&mut desk);
+        let keep_alive = message::keep_alive(crate::events::Beat {
+            form: 2,
+            milliseconds: 20,
+        });
+        let start = Instant::now();
+        desk.tick().unwrap();
+        desk.hear(piece(1, &keep_alive.unwrap())).unwrap();
+        assert_eq!(desk.wait(), Duration::from_millis(20));
+        let mut turns = 0;
+        while desk.sockets[0].is_some() {
+            desk.turn().unwrap();
+            turns += 1;
+        }
+        assert!(start.elapsed() >= Duration::from_millis(59));
+        assert!(turns <= 8, "{turns}");
+    }
+}

@@ -1,0 +1,178 @@
+//! What happens at the amplifier, one line each.
+
+use crate::words;
+use std::fmt;
+
+/// Mutes are counted from 1, connections from 0, as the scope paper numbers them.
+#[derive(Clone, Debug, PartialEq, Eq)]
+pub enum Event {
+    Opened { n: u8 },
+    Full,
+    Watched { n: u8, beat: Beat },
+    Unwatched { n: u8 },
+    Locked { n: u8, mute: u8 },
+    Unlocked { n: u8, mute: u8 },
+    Set { n: u8, mute: u8, value: u8 },
+    Subscribed { n: u8, mute: u8 },
+    Unsubscribed { n: u8, mute: u8 },
+    Answered { n: u8, status: u8 },
+    Notified { n: u8, mute: u8, value: u8 },
+    KeptAlive { n: u8, beat: Beat },
+    Silent { n: u8, since: u32 },
+    HeardAgain { n: u8 },
+    Closed { n: u8, why: Why, left: Left },
+}
+
+/// A heartbeat: its form, and H in milliseconds.
+#[derive(Clone, Copy, Debug, PartialEq, Eq)]
+pub struct Beat {
+    pub form: u8,
+    pub milliseconds: u64,
+}
+
+/// Why a connection was closed.
+#[derive(Clone, Copy, Debug, PartialEq, Eq)]
+pub enum Why {
+    /// By a tick: nothing whole was heard for so long.
+    Silence {
+        silence: u64,
+        beat: Beat,
+    },
+    /// By a delivery.
+    Fault(u8),
+    /// By the host, as everything below.
+    HungUp,
+    Broken,
+    Stalled,
+    Ending,
+}
+
+/// What a closed connection had.
+#[derive(Clone, Debug, Default, PartialEq, Eq)]
+pub struct Left {
+    pub undecided: u16,
+    pub freed: Vec<u8>,
+}
+
+impl fmt::Display for Event {
+    fn fmt(&self, f: &mut fmt::Formatter) -> fmt::Result {
+        match self {
+            Event::Opened { n } => write!(f, "opened connection {n}"),
+            Event::Full => write!(f, "refused a connection: all 8 are open"),
+            Event::Watched { n, beat } => {
+                let limit = 3 * beat.milliseconds;
+                write!(f, "connection {n} set its heartbeat to {beat}")?;
+                write!(f, ": closed after {limit} ms of silence")
+            }
+            Event::Unwatched { n } => {
+                write!(f, "connection {n} set its heartbeat to 0: not supervised")
+            }
+            Event::Locked { n, mute } => write!(f, "connection {n} locked mute {mute}"),
+            Event::Unlocked { n, mute } => write!(f, "connection {n} unlocked mute {mute}"),
+            Event::Set { n, mute, value } => {
+                write!(f, "connection {n} {} mute {mute}", words::value(*value))
+            }
+            Event::Subscribed { n, mute } => write!(f, "connection {n} subscribed to mute {mute}"),
+            Event::Unsubscribed { n, mute } => {
+                write!(f, "connection {n} unsubscribed from mute {mute}")
+            }
+            Event::Answered { n, status } => {
+                write!(f, "answered connection {n}: {}", words::status(*status))
+            }
+            Event::Notified { n, mute, value } => {
+                let value = words::value(*value);
+                write!(f, "notified connection {n}: mute {mute} is {value}")
+            }
+            Event::KeptAlive { n, beat } => write!(f, "sent connection {n} a keep-alive of {beat}"),
+            Event::Silent { n, since } => write!(f, "connection {n} silent since {since} ms"),
+            Event::HeardAgain { n } => write!(f, "connection {n} heard again"),
+            Event::Closed { n, why, left } => write!(f, "closed connection {n}: {why}{left}"),
+        }
+    }
+}
+
+impl fmt::Display for Beat {
+    fn fmt(&self, f: &mut fmt::Formatter) -> fmt::Result {
+        f.write_str(&words::beat(self.form, self.milliseconds))
+    }
+}
+
+impl fmt::Display for Why {
+    fn fmt(&self, f: &mut fmt::Formatter) -> fmt::Result {
+        match self {
+            Why::Silence { silence, beat } => {
+                write!(f, "nothing heard for {silence} ms (3 x {beat})")
+            }
+            Why::Fault(number) => f.write_str(&words::fault(*number)),
+            Why::HungUp => write!(f, "the controller hung up"),
+            Why::Broken => write!(f, "the network broke it"),
+            Why::Stalled => write!(f, "it does not take what it is sent"),
+            Why::Ending => write!(f, "the amplifier ends"),
+        }
+    }
+}
+
+impl fmt::Display for Left {
+    fn fmt(&self, f: &mut fmt::Formatter) -> fmt::Result {
+        f.write_str(&words::undecided(self.undecided))?;
+        f.write_str(&words::free(&self.freed))
+    }
+}
+
+#[cfg(test)]
+mod tests {
+    use super::*;
+
+    #[test]
+    fn lines_say_who_did_what() {
+        let beat = Beat {
+            form: 1,
+            milliseconds: 2_000,
+        };
+        let left = Left {
+            undecided: 13,
+            freed: vec![5],
+        };
+        let silence = 6_000;
+        let why = Why::Silence { silence, beat };
+        let lines = [
+            (Event::Opened { n: 2 }, "opened connection 2"),
+            (Event::Full, "refused a connection: all 8 are open"),
+            (
+                Event::Watched { n: 0, beat },
+                "connection 0 set its heartbeat to 2 s: closed after 6000 ms of silence",
+            ),
+            (
+                Event::Locked { n: 2, mute: 5 },
+                "connection 2 locked mute 5",
+            ),
+            (
+                Event::Set {
+                    n: 0,
+                    mute: 5,
+                    value: 1,
+                },
+                "connection 0 muted mute 5",
+            ),
+            (
+                Event::Silent { n: 1, since: 4_000 },
+                "connection 1 silent since 4000 ms",
+            ),
+            (
+                Event::Closed { n: 1, why, left },
+                "closed connection 1: nothing heard for 6000 ms (3 x 2 s); 13 undecided bytes dropped; mute 5 is free",
+            ),
+            (
+                Event::Closed {
+                    n: 0,
+                    why: Why::Fault(4),
+                    left: Left::default(),
+                },
+                "closed connection 0: fault 4 (type above 4)",
+            ),
+        ];
+        for (event, line) in lines {
+            assert_eq!(event.to_string(), line);
+        }
+    }
+}

@@ -1,0 +1,22 @@
+//! An amplifier on the desk: a host over the library's archive, on real
+//! sockets of the loopback address; and a controller to ask it.
+
+#![deny(unsafe_code)]
+#![warn(missing_debug_implementations)]
+
+pub mod amplifier;
+pub mod changes;
+pub mod clock;
+pub mod desk;
+pub mod events;
+#[allow(unsafe_code)]
+pub mod interrupt;
+pub mod message;
+pub mod script;
+pub mod session;
+pub mod socket;
+pub mod tablet;
+pub mod words;
+
+/// The port of the loopback address that both programs take when none is named.
+pub const PORT: u16 = 65_070;

@@ -1,0 +1,198 @@
+//! The controller's messages, by the library's own writer and reader.
+
+use crate::amplifier::Refused;
+use crate::events::Beat;
+use crate::words;
+use compare::engine::Engine;
+use compare::harness::traffic;
+use compare::ours::Ours;
+
+/// The least buffer of the writer; no message that is read is longer.
+const ROOM: usize = 2_049;
+/// The command type that wants a reply.
+const WANTING_REPLY: u8 = 1;
+const SUBSCRIPTION_MANAGER: u32 = 4;
+/// Event 1.1, a property changed.
+const CHANGED: u32 = 0x0001_0001;
+/// The subscriber's object and method: this controller has one.
+const SUBSCRIBER: (u32, u32) = (9, 0x0003_0001);
+/// The refusals of the reader.
+const FAULT: u8 = 8;
+const SHORT: u8 = 9;
+
+/// What is asked of a mute.
+#[derive(Clone, Copy, Debug, PartialEq, Eq)]
+pub enum Asking {
+    Lock,
+    Unlock,
+    Mute,
+    Unmute,
+    Get,
+    Subscribe,
+    Unsubscribe,
+}
+
+/// What the amplifier says.
+#[derive(Clone, Debug, PartialEq, Eq)]
+pub enum Said {
+    Reply {
+        handle: u32,
+        status: u8,
+        parameters: Vec<u8>,
+    },
+    Notification {
+        mute: u8,
+        value: u8,
+    },
+    KeepAlive(Beat),
+    /// A command, which no amplifier sends.
+    Strange,
+}
+
+/// What stands at the front of the bytes.
+#[derive(Clone, Debug, PartialEq, Eq)]
+pub enum Front {
+    Part,
+    Message { length: usize, said: Said },
+    Fault(u8),
+}
+
+pub fn command(handle: u32, asking: Asking, mute: u8) -> Result<Vec<u8>, Refused> {
+    let object = words::object_of_mute(mute);
+    let (target, method, count, rest) = match asking {
+        Asking::Lock => (object, (1, 3), 0, Vec::new()),
+        Asking::Unlock => (object, (1, 4), 0, Vec::new()),
+        Asking::Get => (object, (4, 1), 0, Vec::new()),
+        Asking::Mute => (object, (4, 2), 1, vec![1]),
+        Asking::Unmute => (object, (4, 2), 1, vec![2]),
+        Asking::Subscribe => {
+            let adding = traffic::adding(&subscription(object), 0, 1, [0, 0]);
+            (SUBSCRIPTION_MANAGER, (3, 1), 5, adding)
+        }
+        Asking::Unsubscribe => (SUBSCRIPTION_MANAGER, (3, 2), 2, subscription(object)),
+    };
+    let entry = traffic::command(handle, target, method, count, &rest);
+    let mut bytes = vec![0; ROOM];
+    let written = Ours.start(&mut bytes, WANTING_REPLY, &entry);
+    cut(bytes, "start", written.number, written.length)
+}
+
+pub fn keep_alive(beat: Beat) -> Result<Vec<u8>, Refused> {
+    let unit = if beat.form == 1 { 1_000 } else { 1 };
+    let value = (beat.milliseconds / unit) as u32;
+    let mut bytes = vec![0; ROOM];
+    let written = Ours.keep_alive(&mut bytes, beat.form, value);
+    cut(bytes, "keep-alive", written.number, written.length)
+}
+
+pub fn read(bytes: &[u8]) -> Front {
+    let reading = Ours.read_message(bytes);
+    match reading.number {
+        FAULT => return Front::Fault(reading.fault),
+        SHORT => return Front::Part,
+        _ => {}
+    }
+    let said = match reading.kind {
+        4 => Said::KeepAlive(Beat {
+            form: reading.form,
+            milliseconds: u64::from(reading.value) * if reading.form == 1 { 1_000 } else { 1 },
+        }),
+        kind => entry(kind, bytes),
+    };
+    let length = reading.length;
+    Front::Message { length, said }
+}
+
+/// The first entry: this controller asks for one thing at a time.
+fn entry(kind: u8, bytes: &[u8]) -> Said {
+    let entry = Ours.read_entry(bytes, 0);
+    let part = Ours.entry_part(bytes, 0);
+    let parameters = &bytes[part.start..part.start + part.length];
+    match (kind, parameters) {
+        // property 4.1, the value, 1
+        (2, [0, 4, 0, 1, value, 1]) => Said::Notification {
+            mute: words::mute_of_object(entry.emitter),
+            value: *value,
+        },
+        (3, _) => Said::Reply {
+            handle: entry.handle,
+            status: entry.status,
+            parameters: parameters.to_vec(),
+        },
+        _ => Said::Strange,
+    }
+}
+
+fn subscription(emitter: u32) -> Vec<u8> {
+    traffic::naming(emitter, CHANGED, SUBSCRIBER.0, SUBSCRIBER.1)
+}
+
+fn cut(
+    mut bytes: Vec<u8>,
+    call: &'static str,
+    number: u8,
+    length: usize,
+) -> Result<Vec<u8>, Refused> {
+    if number != 0 {
+        return Err(Refused { call, number });
+    }
+    bytes.truncate(length);
+    Ok(bytes)
+}
+
+#[cfg(test)]
+mod tests {
+    use super::*;
+
+    /// The scope paper's bench examples.
+    #[test]
+    fn messages_are_those_of_the_paper() {
+        let lock = [
+            0x3B, 0, 1, 0, 0, 0, 0x1A, 1, 0, 1, 0, 0, 0, 0x11, 0, 0, 0, 7, 0, 0, 0x10, 1, 0, 1, 0,
+            3, 0,
+        ];
+        assert_eq!(command(7, Asking::Lock, 1).unwrap(), lock);
+        let beat = |form| Beat {
+            form,
+            milliseconds: 2_000,
+        };
+        let seconds = [0x3B, 0, 1, 0, 0, 0, 0x0B, 4, 0, 1, 0, 2];
+        assert_eq!(keep_alive(beat(1)).unwrap(), seconds);
+        let milliseconds = [0x3B, 0, 1, 0, 0, 0, 0x0D, 4, 0, 1, 0, 0, 7, 0xD0];
+        assert_eq!(keep_alive(beat(2)).unwrap(), milliseconds);
+    }
+
+    #[test]
+    fn what_the_amplifier_says_is_read() {
+        let reply = [
+            0x3B, 0, 1, 0, 0, 0, 0x13, 3, 0, 1, 0, 0, 0, 0x0A, 0, 0, 0, 7, 3, 0,
+        ];
+        let said = Said::Reply {
+            handle: 7,
+            status: 3,
+            parameters: Vec::new(),
+        };
+        let length = reply.len();
+        assert_eq!(read(&reply), Front::Message { length, said });
+        assert_eq!(read(&reply[..length - 1]), Front::Part);
+        assert_eq!(read(&[0]), Front::Fault(1));
+        let notification = [
+            0x3B, 0, 1, 0, 0, 0, 0x28, 2, 0, 1, 0, 0, 0, 0x1F, 0, 0, 0, 9, 0, 3, 0, 1, 2, 1, 2, 3,
+            4, 0, 0, 0x10, 1, 0, 1, 0, 1, 0, 4, 0, 1, 1, 1,
+        ];
+        let said = Said::Notification { mute: 1, value: 1 };
+        let length = notification.len();
+        assert_eq!(read(&notification), Front::Message { length, said });
+    }
+
+    #[test]
+    fn a_keep_alive_is_read_in_its_form() {
+        for (form, milliseconds) in [(1, 2_000), (2, 2_000), (1, 65_535_000), (2, 0xFFFF_FFFF)] {
+            let beat = Beat { form, milliseconds };
+            let bytes = keep_alive(beat).unwrap();
+            let said = Said::KeepAlive(beat);
+            let length = bytes.len();
+            assert_eq!(read(&bytes), Front::Message { length, said });
+        }
+    }
+}

@@ -1,0 +1,292 @@
+//! A controller at work: commands one after another, keeping alive between.
+
+use crate::clock::Clock;
+use crate::events::Beat;
+use crate::message::{self, Asking, Said};
+use crate::script::{self, Command};
+use crate::socket::{Heard, Socket, What};
+use crate::tablet::Tablet;
+use crate::words;
+use std::fmt::Display;
+use std::io::{self, Write};
+use std::net::{SocketAddr, TcpStream};
+use std::sync::mpsc::{self, Receiver, SyncSender, TryRecvError};
+use std::time::{Duration, Instant};
+
+/// How long a reply may take.
+const PATIENCE: Duration = Duration::from_secs(5);
+/// How often a lock is asked for.
+const AGAIN: Duration = Duration::from_secs(1);
+/// How often typed commands are looked for.
+const TURN: Duration = Duration::from_millis(50);
+/// How many pieces may wait.
+const WAITING: usize = 16;
+
+/// Whether there is more to do.
+#[derive(Clone, Copy, Debug, PartialEq, Eq)]
+pub enum Next {
+    More,
+    Quit,
+}
+
+/// What a wait came to.
+#[derive(Debug)]
+enum Came {
+    Said(Said),
+    Closed,
+    Nothing,
+}
+
+#[derive(Debug)]
+pub struct Session<W> {
+    address: SocketAddr,
+    clock: Clock,
+    name: String,
+    tablets: Vec<Tablet>,
+    serial: u64,
+    inbox: Receiver<Heard>,
+    outside: SyncSender<Heard>,
+    lines: W,
+}
+
+impl<W: Write> Session<W> {
+    pub fn new(address: SocketAddr, lines: W) -> Session<W> {
+        let (outside, inbox) = mpsc::sync_channel(WAITING);
+        Session {
+            address,
+            clock: Clock::starting_at(0),
+            name: "tablet".to_string(),
+            tablets: Vec::new(),
+            serial: 0,
+            inbox,
+            outside,
+            lines,
+        }
+    }
+
+    /// Does the commands in order.
+    pub fn obey(&mut self, commands: Vec<Command>) -> io::Result<Next> {
+        for command in commands {
+            if self.command(command)? == Next::Quit {
+                return Ok(Next::Quit);
+            }
+        }
+        Ok(Next::More)
+    }
+
+    /// Does what is typed, until there is no more.
+    pub fn converse(&mut self, typed: &Receiver<String>) -> io::Result<()> {
+        loop {
+            match typed.try_recv() {
+                Ok(line) => {
+                    if self.obey_line(&line)? == Next::Quit {
+                        return Ok(());
+                    }
+                }
+                Err(TryRecvError::Empty) => drop(self.attend(TURN, |_| false)?),
+                Err(TryRecvError::Disconnected) => return Ok(()),
+            }
+        }
+    }
+
+    fn obey_line(&mut self, line: &str) -> io::Result<Next> {
+        match script::parse(line) {
+            Ok(commands) => self.obey(commands),
+            Err(wrong) => self.say(wrong).map(|()| Next::More),
+        }
+    }
+
+    fn command(&mut self, command: Command) -> io::Result<Next> {
+        match command {
+            Command::Ask(asking, mute) => drop(self.ask(asking, mute)?),
+            Command::Await(mute) => self.ask_again(mute)?,
+            Command::Beat(beat) => self.beat(beat)?,
+            Command::Bytes(bytes) => {
+                self.current()?;
+                self.say(format_args!("sends {} bytes as they are", bytes.len()))?;
+                self.send(&bytes)?;
+            }
+            Command::Wait(time) => drop(self.attend(time, |_| false)?),
+            Command::Dead => {
+                self.current()?.dead = true;
+                self.say("dead: says nothing more, its connection stays open")?;
+            }
+            Command::As(name) => self.name = name,
+            Command::Quit => return Ok(Next::Quit),
+        }
+        Ok(Next::More)
+    }
+
+    /// Asks for the lock until it is given.
+    fn ask_again(&mut self, mute: u8) -> io::Result<()> {
+        let start = Instant::now();
+        while self.ask(Asking::Lock, mute)? != 0 {
+            let asked = start.elapsed().as_millis() % AGAIN.as_millis();
+            let rest = AGAIN.saturating_sub(Duration::from_millis(asked as u64));
+            self.attend(rest, |_| false)?;
+        }
+        let waited = start.elapsed().as_millis();
+        self.say(format_args!("let in after {waited} ms"))
+    }
+
+    /// Asks for one thing and waits for the reply; answers its status.
+    fn ask(&mut self, asking: Asking, mute: u8) -> io::Result<u8> {
+        let tablet = self.current()?;
+        tablet.handle += 1;
+        let asked = tablet.handle;
+        self.send(&message::command(asked, asking, mute)?)?;
+        let reply = |said: &Said| matches!(said, Said::Reply { handle, .. } if *handle == asked);
+        let name = format!("{asking:?} {mute}").to_lowercase();
+        match self.attend(PATIENCE, reply)? {
+            Came::Said(Said::Reply {
+                status, parameters, ..
+            }) => {
+                let value = match (asking, parameters.as_slice()) {
+                    (Asking::Get, [value]) => format!(", {}", words::value(*value)),
+                    _ => String::new(),
+                };
+                let status_told = words::status(status);
+                self.say(format_args!("{name}: {status_told}{value}"))?;
+                Ok(status)
+            }
+            came => Err(self.missing(&name, &came)),
+        }
+    }
+
+    fn beat(&mut self, beat: Beat) -> io::Result<()> {
+        let bytes = self.current()?.set_beat(beat)?;
+        self.send(&bytes)?;
+        match self.attend(PATIENCE, |said| *said == Said::KeepAlive(beat))? {
+            Came::Said(_) => self.say(format_args!("beat {beat}: answered")),
+            came => Err(self.missing(&format!("beat {beat}"), &came)),
+        }
+    }
+
+    fn missing(&self, what: &str, came: &Came) -> io::Error {
+        let why = match came {
+            Came::Closed => "the connection was closed",
+            _ => "no reply came",
+        };
+        io::Error::other(format!("{}: {what}: {why}", self.name))
+    }
+
+    fn find(&mut self) -> Option<&mut Tablet> {
+        let name = &self.name;
+        self.tablets.iter_mut().find(|tablet| tablet.name == *name)
+    }
+
+    /// The controller that speaks now; it connects when it has no connection.
+    fn current(&mut self) -> io::Result<&mut Tablet> {
+        if self.find().is_none() {
+            let stream = TcpStream::connect(self.address)?;
+            self.serial += 1;
+            let socket = Socket::start(stream, self.serial, self.outside.clone())?;
+            self.tablets.push(Tablet::new(&self.name, socket));
+            self.say("connected")?;
+        }
+        self.find()
+            .ok_or_else(|| io::ErrorKind::NotConnected.into())
+    }
+
+    fn send(&mut self, bytes: &[u8]) -> io::Result<()> {
+        let tablet = self.current()?;
+        if tablet.dead {
+            return Err(io::Error::other(format!("{} is dead", self.name)));
+        }
+        // one that cannot be written is soon heard to be gone
+        let _ = tablet.socket.send(bytes);
+        Ok(())
+    }
+
+    /// Keeps alive and listens until what is wanted is said, or the time is up.
+    fn attend(&mut self, time: Duration, wanted: impl Fn(&Said) -> bool) -> io::Result<Came> {
+        let until = Instant::now() + time;
+        loop {
+            for tablet in &mut self.tablets {
+                // as above
+                let _ = tablet.beat();
+            }
+            let now = Instant::now();
+            if now >= until {
+                return Ok(Came::Nothing);
+            }
+            let beats = self.tablets.iter().filter_map(Tablet::next_beat);
+            let next = beats.fold(until, Instant::min);
+            if let Ok(heard) = self.inbox.recv_timeout(next.saturating_duration_since(now)) {
+                match self.hear(heard, &wanted)? {
+                    Came::Nothing => {}
+                    came => return Ok(came),
+                }
+            }
+        }
+    }
+
+    fn hear(&mut self, heard: Heard, wanted: &impl Fn(&Said) -> bool) -> io::Result<Came> {
+        let of = |tablet: &Tablet| tablet.socket.serial == heard.serial;
+        let Some(k) = self.tablets.iter().position(of) else {
+            return Ok(Came::Nothing);
+        };
+        match heard.what {
+            What::Gone(_) => self.part(k, "closed by the amplifier"),
+            What::Piece(bytes) => {
+                self.tablets[k].take(&bytes);
+                self.listen(k, wanted)
+            }
+        }
+    }
+
+    /// Hears every whole message; answers what was wanted of the one that speaks now.
+    fn listen(&mut self, k: usize, wanted: &impl Fn(&Said) -> bool) -> io::Result<Came> {
+        let mut came = Came::Nothing;
+        loop {
+            match self.tablets[k].next_said() {
+                Ok(None) => return Ok(came),
+                Ok(Some(said)) => {
+                    let current = self.tablets[k].name == self.name;
+                    self.told(k, &said)?;
+                    if current && wanted(&said) {
+                        came = Came::Said(said);
+                    }
+                }
+                Err(fault) => return self.part(k, &words::fault(fault)),
+            }
+        }
+    }
+
+    /// Ends a connection; answers whether it was the one that speaks now.
+    fn part(&mut self, k: usize, why: &str) -> io::Result<Came> {
+        let tablet = self.tablets.remove(k);
+        self.line(&tablet.name, why)?;
+        drop(tablet.socket.hang_up());
+        Ok(match tablet.name == self.name {
+            true => Came::Closed,
+            false => Came::Nothing,
+        })
+    }
+
+    /// A line for what was not asked for.
+    fn told(&mut self, k: usize, said: &Said) -> io::Result<()> {
+        let told = match said {
+            Said::Reply { .. } => return Ok(()),
+            Said::KeepAlive(_) if self.tablets[k].answered() => return Ok(()),
+            Said::KeepAlive(beat) => format!("the amplifier keeps alive, {beat}"),
+            Said::Notification { mute, value } => {
+                format!("notified: mute {mute} is {}", words::value(*value))
+            }
+            Said::Strange => "a message that no amplifier sends".to_string(),
+        };
+        let name = self.tablets[k].name.clone();
+        self.line(&name, &told)
+    }
+
+    fn say(&mut self, what: impl Display) -> io::Result<()> {
+        let name = self.name.clone();
+        self.line(&name, what)
+    }
+
+    fn line(&mut self, name: &str, what: impl Display) -> io::Result<()> {
+        let reading = self.clock.reading();
+        writeln!(self.lines, "{reading:>8} ms  {name}: {what}")?;
+        self.lines.flush()
+    }
+}
