@@ -216,8 +216,10 @@ impl<W: Write> Desk<W> {
 #[cfg(test)]
 mod tests {
     use super::*;
+    use crate::events::Beat;
     use crate::message::{self, Asking};
     use std::net::Ipv4Addr;
+    use std::thread;
     use std::time::Instant;
 
     fn desk() -> Desk<Vec<u8>> {
@@ -237,6 +239,11 @@ mod tests {
         Heard { serial, what }
     }
 
+    fn keep_alive(milliseconds: u64) -> Vec<u8> {
+        let form = 2;
+        message::keep_alive(Beat { form, milliseconds }).unwrap()
+    }
+
     /// A number is given again while pieces of its last connection still wait.
     #[test]
     fn late_pieces_of_a_closed_connection_belong_to_nobody() {
@@ -254,22 +261,31 @@ mod tests {
         assert_eq!(desk.amplifier.record().device.holders[4], 1);
     }
 
+    /// A pause before a message is not counted as silence after it.
+    #[test]
+    fn silence_begins_where_it_was_heard() {
+        let mut desk = desk();
+        let _stream = arrive(&mut desk);
+        thread::sleep(Duration::from_millis(100));
+        let heard = piece(1, &keep_alive(20));
+        desk.outside.send(heard).unwrap();
+        desk.turn().unwrap();
+        assert_eq!(desk.amplifier.record().device.connections[0].silence, 0);
+        assert!(desk.sockets[0].is_some());
+    }
+
     /// It waits for what is due, and does not turn round and round before.
     #[test]
     fn a_turn_waits() {
         let mut desk = desk();
         assert_eq!(desk.wait(), TURN);
         let _stream = arrive(&mut desk);
-        let keep_alive = message::keep_alive(crate::events::Beat {
-            form: 2,
-            milliseconds: 20,
-        });
         let start = Instant::now();
         desk.tick().unwrap();
-        desk.hear(piece(1, &keep_alive.unwrap())).unwrap();
+        desk.hear(piece(1, &keep_alive(20))).unwrap();
         assert_eq!(desk.wait(), Duration::from_millis(20));
         let mut turns = 0;
-        while desk.sockets[0].is_some() {
+        while desk.sockets[0].is_some() && turns < 100 {
             desk.turn().unwrap();
             turns += 1;
         }

@@ -7,8 +7,8 @@ use std::time::Duration;
 /// The technician's question: a tablet locks mute 5, begins a message and dies.
 pub const QUESTION: &str = "as tablet beat 2 mute 5 lock 5 bytes 3B0001000000 dead wait 500 as technician await 5 unmute 5 quit";
 
-pub const HELP: &str = "\
-  lock N, unlock N, mute N, unmute N, get N, subscribe N, unsubscribe N   ask mute N, 1 to 8
+pub const HELP: &str =
+    "  lock N, unlock N, mute N, unmute N, get N, subscribe N, unsubscribe N   ask mute N, 1 to 8
   await N      ask for the lock every second until it is given
   beat S       set the heartbeat in seconds and keep alive; 'beat 200ms' in milliseconds; 0: no more
   bytes HEX    send these bytes as they are

@@ -5,7 +5,7 @@ mod hall;
 use compare::harness::traffic;
 use demo::script;
 use demo::session::{Next, Session};
-use hall::{Hall, Log, Peer, get, lock, object, reply, set, subscribe};
+use hall::{Hall, Log, PATIENCE, Peer, get, lock, object, reply, set, subscribe};
 use std::io::{BufRead, BufReader, Write};
 use std::process::{Command, Stdio};
 use std::thread;
@@ -243,14 +243,15 @@ fn a_controller_that_takes_nothing_is_closed() {
     let many = traffic::message(1, &many);
     let talking = thread::spawn(move || while deaf.stream.write_all(&many).is_ok() {});
     let mut slowest = Duration::ZERO;
-    while !hall.log.has("closed connection 0") {
+    let begun = Instant::now();
+    while !hall.log.has("closed connection 0") && begun.elapsed() < PATIENCE {
         let start = Instant::now();
         panel.ask(&lock(1, 5), 0);
         slowest = slowest.max(start.elapsed());
         pause(5);
     }
-    talking.join().unwrap();
     let (_, line) = hall.log.line("closed connection 0");
+    talking.join().unwrap();
     assert_eq!(
         line,
         "closed connection 0: it does not take what it is sent"

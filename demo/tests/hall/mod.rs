@@ -11,7 +11,7 @@ use std::thread::{self, JoinHandle};
 use std::time::{Duration, Instant};
 
 /// Long enough for an emulated machine that is busy.
-const PATIENCE: Duration = Duration::from_secs(20);
+pub const PATIENCE: Duration = Duration::from_secs(20);
 
 /// What was printed so far.
 #[derive(Clone, Debug, Default)]
@@ -107,6 +107,11 @@ impl Hall {
     /// Asks for the end and waits for it; answers all that was printed.
     pub fn end(self) -> String {
         self.stop.store(true, Ordering::Relaxed);
+        let start = Instant::now();
+        while !self.thread.is_finished() {
+            assert!(start.elapsed() < PATIENCE, "no end:\n{}", self.log.text());
+            thread::sleep(Duration::from_millis(5));
+        }
         self.thread.join().unwrap().unwrap();
         self.log.text()
     }
