@@ -123,56 +123,67 @@ impl fmt::Display for Left {
 mod tests {
     use super::*;
 
+    const BEAT: Beat = Beat {
+        form: 1,
+        milliseconds: 2_000,
+    };
+
+    fn said(event: Event, line: &str) {
+        assert_eq!(event.to_string(), line);
+    }
+
     #[test]
     fn lines_say_who_did_what() {
-        let beat = Beat {
-            form: 1,
-            milliseconds: 2_000,
-        };
-        let left = Left {
-            undecided: 13,
-            freed: vec![5],
-        };
+        let (n, mute, value, since) = (2, 5, 1, 4_000);
+        said(Event::Opened { n }, "opened connection 2");
+        said(Event::Full, "refused a connection: all 8 are open");
+        said(
+            Event::Watched { n, beat: BEAT },
+            "connection 2 set its heartbeat to 2 s: closed after 6000 ms of silence",
+        );
+        said(Event::Locked { n, mute }, "connection 2 locked mute 5");
+        said(Event::Unlocked { n, mute }, "connection 2 unlocked mute 5");
+        said(Event::Set { n, mute, value }, "connection 2 muted mute 5");
+        said(
+            Event::KeptAlive { n, beat: BEAT },
+            "sent connection 2 a keep-alive of 2 s",
+        );
+        said(
+            Event::Silent { n, since },
+            "connection 2 silent since 4000 ms",
+        );
+    }
+
+    #[test]
+    fn a_closure_says_why_and_what_is_left() {
         let silence = 6_000;
-        let why = Why::Silence { silence, beat };
-        let lines = [
-            (Event::Opened { n: 2 }, "opened connection 2"),
-            (Event::Full, "refused a connection: all 8 are open"),
-            (
-                Event::Watched { n: 0, beat },
-                "connection 0 set its heartbeat to 2 s: closed after 6000 ms of silence",
-            ),
-            (
-                Event::Locked { n: 2, mute: 5 },
-                "connection 2 locked mute 5",
-            ),
-            (
-                Event::Set {
-                    n: 0,
-                    mute: 5,
-                    value: 1,
+        let closed = |why, undecided, freed: &[u8]| Event::Closed {
+            n: 1,
+            why,
+            left: Left {
+                undecided,
+                freed: freed.to_vec(),
+            },
+        };
+        said(
+            closed(
+                Why::Silence {
+                    silence,
+                    beat: BEAT,
                 },
-                "connection 0 muted mute 5",
+                13,
+                &[5],
             ),
-            (
-                Event::Silent { n: 1, since: 4_000 },
-                "connection 1 silent since 4000 ms",
-            ),
-            (
-                Event::Closed { n: 1, why, left },
-                "closed connection 1: nothing heard for 6000 ms (3 x 2 s); 13 undecided bytes dropped; mute 5 is free",
-            ),
-            (
-                Event::Closed {
-                    n: 0,
-                    why: Why::Fault(4),
-                    left: Left::default(),
-                },
-                "closed connection 0: fault 4 (type above 4)",
-            ),
-        ];
-        for (event, line) in lines {
-            assert_eq!(event.to_string(), line);
-        }
+            "closed connection 1: nothing heard for 6000 ms (3 x 2 s); \
+             13 undecided bytes dropped; mute 5 is free",
+        );
+        said(
+            closed(Why::Fault(4), 0, &[]),
+            "closed connection 1: fault 4 (type above 4)",
+        );
+        said(
+            closed(Why::HungUp, 0, &[2, 8]),
+            "closed connection 1: the controller hung up; mutes 2, 8 are free",
+        );
     }
 }

@@ -17,7 +17,7 @@ use std::time::{Duration, Instant};
 const PATIENCE: Duration = Duration::from_secs(5);
 /// How often a lock is asked for.
 const AGAIN: Duration = Duration::from_secs(1);
-/// How often typed commands are looked for.
+/// The longest wait; typed commands are looked for after it.
 const TURN: Duration = Duration::from_millis(50);
 /// How many pieces may wait.
 const WAITING: usize = 16;
@@ -198,20 +198,26 @@ impl<W: Write> Session<W> {
         Ok(())
     }
 
+    /// Sends the keep-alives that are due; answers when to look again.
+    fn keep_alive(&mut self) -> Instant {
+        let mut next = Instant::now() + TURN;
+        for tablet in &mut self.tablets {
+            // as above
+            let _ = tablet.beat();
+            next = tablet.next_beat().map_or(next, |beat| beat.min(next));
+        }
+        next
+    }
+
     /// Keeps alive and listens until what is wanted is said, or the time is up.
     fn attend(&mut self, time: Duration, wanted: impl Fn(&Said) -> bool) -> io::Result<Came> {
         let until = Instant::now() + time;
         loop {
-            for tablet in &mut self.tablets {
-                // as above
-                let _ = tablet.beat();
-            }
             let now = Instant::now();
             if now >= until {
                 return Ok(Came::Nothing);
             }
-            let beats = self.tablets.iter().filter_map(Tablet::next_beat);
-            let next = beats.fold(until, Instant::min);
+            let next = self.keep_alive().min(until);
             if let Ok(heard) = self.inbox.recv_timeout(next.saturating_duration_since(now)) {
                 match self.hear(heard, &wanted)? {
                     Came::Nothing => {}

@@ -110,12 +110,9 @@ mod tests {
     fn mutes_are_objects_4097_to_4104() {
         assert_eq!(object_of_mute(1), 4_097);
         assert_eq!(object_of_mute(8), 4_104);
-        for mute in 1..=8 {
-            assert_eq!(mute_of_object(object_of_mute(mute)), mute);
-        }
-        for object in [0, 1, 4, 4_096, 4_105, u32::MAX] {
-            assert_eq!(mute_of_object(object), 0, "{object}");
-        }
+        assert!((1..=8).all(|mute| mute_of_object(object_of_mute(mute)) == mute));
+        let others = [0, 1, 4, 4_096, 4_105, u32::MAX];
+        assert!(others.iter().all(|object| mute_of_object(*object) == 0));
     }
 
     /// The paper's statuses are 0 and 3 to 11, its faults 1 to 6, its refusals 1 to 12.

@@ -23,33 +23,29 @@ fn pause(milliseconds: u64) {
 fn bytes_cut_one_by_one_and_mixed() {
     let hall = Hall::open();
     let mut peers: Vec<Peer> = (0..3).map(|n| hall.connect(n)).collect();
-    let talk = |mute: u32| {
-        let beat = traffic::keep_alive(1, 30);
-        let two = traffic::message(1, &[lock(7, mute), set(8, mute, 1)]);
-        let one = traffic::message(1, &[get(9, mute)]);
-        [beat, two, one].concat()
-    };
     let talks: Vec<Vec<u8>> = (1..=3).map(talk).collect();
-    for k in 0..talks[0].len() {
-        for (peer, talk) in peers.iter_mut().zip(&talks) {
-            peer.send(&talk[k..=k]);
-        }
+    for place in 0..3 * talks[0].len() {
+        let (k, n) = (place / 3, place % 3);
+        peers[n].send(&talks[n][k..=k]);
     }
-    let mut done = Vec::new();
-    for handle in [7, 8] {
-        done.extend(&reply(handle, 0, 0, &[])[10..]);
-    }
-    for peer in &mut peers {
-        peer.expect(&traffic::keep_alive(1, 30));
-        peer.expect(&traffic::framed(1, 9 + done.len() as u32, 3, 2, &done));
-        peer.expect(&reply(9, 0, 1, &[1]));
-    }
-    let text = hall.end();
-    for n in 0..3 {
+    let both = [&reply(7, 0, 0, &[])[10..], &reply(8, 0, 0, &[])[10..]].concat();
+    for (n, peer) in peers.iter_mut().enumerate() {
         let mute = n + 1;
-        assert!(text.contains(&format!("connection {n} locked mute {mute}")));
-        assert!(text.contains(&format!("connection {n} muted mute {mute}")));
+        peer.expect(&traffic::keep_alive(1, 30));
+        peer.expect(&traffic::framed(1, 9 + both.len() as u32, 3, 2, &both));
+        peer.expect(&reply(9, 0, 1, &[1]));
+        hall.log.line(&format!("connection {n} locked mute {mute}"));
+        hall.log.line(&format!("connection {n} muted mute {mute}"));
     }
+    hall.end();
+}
+
+/// A heartbeat of 30 s; lock and set in one message; get.
+fn talk(mute: u32) -> Vec<u8> {
+    let beat = traffic::keep_alive(1, 30);
+    let two = traffic::message(1, &[lock(7, mute), set(8, mute, 1)]);
+    let one = traffic::message(1, &[get(9, mute)]);
+    [beat, two, one].concat()
 }
 
 /// The technician's question, with 200 ms for 30 s.
@@ -163,13 +159,10 @@ fn a_ninth_connection_is_refused() {
 #[test]
 fn a_fault_closes_its_connection_alone() {
     let hall = Hall::open();
-    let mut panel = hall.connect(0);
-    let mut first = hall.connect(1);
-    let mut typed = hall.connect(2);
-    let mut data = hall.connect(3);
+    let [mut panel, mut first, mut typed, mut data] = [0, 1, 2, 3].map(|n| hall.connect(n));
     panel.ask(&lock(7, 5), 0);
     first.ask(&lock(7, 6), 0);
-    // what follows the fault is not run, and what came before is answered
+    // what follows the fault is not run, what came before is answered
     let after = traffic::message(1, &[set(9, 6, 1)]);
     first.send(&[vec![0x3A], after.clone()].concat());
     typed.send(
