@@ -28,7 +28,7 @@ fn main() {
 fn with_weak_handler(archive: &Path) -> Option<PathBuf> {
     let folder = PathBuf::from(env::var_os("OUT_DIR")?);
     let copy = folder.join("libmelorwyth.a");
-    let done = Command::new("objcopy")
+    let done = Command::new(objcopy())
         .arg("--wildcard")
         .arg("--weaken-symbol=*rust_begin_unwind")
         .arg("--weaken-symbol=rust_eh_personality")
@@ -36,6 +36,20 @@ fn with_weak_handler(archive: &Path) -> Option<PathBuf> {
         .arg(&copy)
         .status();
     matches!(done, Ok(status) if status.success()).then_some(copy)
+}
+
+/// The `objcopy` for the target's processor: that of another cannot read the archive.
+fn objcopy() -> String {
+    let processor = |name: &str| {
+        let triple = env::var(name).unwrap_or_default();
+        triple.split('-').next().unwrap_or_default().to_string()
+    };
+    let target = processor("TARGET");
+    if target == processor("HOST") {
+        "objcopy".to_string()
+    } else {
+        format!("{target}-linux-gnu-objcopy")
+    }
 }
 
 /// A relative name counts from this package's folder.
