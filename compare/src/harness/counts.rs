@@ -241,21 +241,79 @@ impl Counts {
         failures
     }
 
+    /// How often the rarest thing that has to come came.
+    fn rarest(&self) -> u64 {
+        self.lines()
+            .iter()
+            .map(|(_, count)| *count)
+            .min()
+            .unwrap_or(0)
+    }
+
     /// The table of counts.
     pub fn table(&self) -> String {
-        let mut text = String::new();
-        for (label, count) in self.lines() {
-            let _ = writeln!(text, "{count:>8}  {label}");
-        }
-        let _ = writeln!(
-            text,
-            "{:>8}  refusal 7: cannot come, as sums that do not fit 64 bits need a record \
-             that breaks a rule, and that is refused by 1",
-            self.overruns_given()
+        let mut text = format!(
+            "{:<14}{:>8}  refusals, each with its number\n",
+            "call", "done"
         );
-        let _ = writeln!(text, "{:>8}  calls in all", self.total());
+        for (name, numbers) in NAMES.iter().zip(&self.refusals) {
+            let refusals = series(&numbers[1..], 1);
+            let line = format!("{name:<14}{:>8}  {refusals}", numbers[0]);
+            let _ = writeln!(text, "{}", line.trim_end());
+        }
+        let rows = [
+            ("closed by fault", series(&self.delivery_faults[1..], 1)),
+            ("reader's faults", series(&self.reader_faults[1..], 1)),
+            ("append's faults", series(&self.append_faults[1..], 1)),
+            ("statuses", series(&self.statuses, 0)),
+            ("types delivered", series(&self.delivered_types, 0)),
+            ("types read", series(&self.read_types, 0)),
+        ];
+        for (label, numbers) in rows {
+            let _ = writeln!(text, "{label:<24}{numbers}");
+        }
+        self.write_rest(&mut text);
         text
     }
+
+    fn write_rest(&self, text: &mut String) {
+        let _ = writeln!(
+            text,
+            "deliveries              more needed {}, replies {}\n\
+             closures                by fault {}, by the host {}, by tick {}\n\
+             taken                   notifications {}, keep-alives {}, nothing {}\n\
+             parts                   with bytes {}, empty {}\n\
+             sums beyond 64 bits     tried {}, refusal 7 given {} (such a record breaks a rule: 1)\n\
+             calls in all            {}\n\
+             kinds that have to come {}, the rarest {} times",
+            self.more,
+            self.replies,
+            self.closed_by_fault,
+            self.closed_by_host,
+            self.closed_by_tick,
+            self.notifications,
+            self.keep_alives,
+            self.nothing,
+            self.parts,
+            self.empty_parts,
+            self.overruns_tried,
+            self.overruns_given(),
+            self.total(),
+            self.lines().len(),
+            self.rarest()
+        );
+    }
+}
+
+/// The counts that are not zero, each after its number.
+fn series(counts: &[u64], first: usize) -> String {
+    let some: Vec<String> = counts
+        .iter()
+        .enumerate()
+        .filter(|(_, count)| **count > 0)
+        .map(|(place, count)| format!("{}: {count}", first + place))
+        .collect();
+    some.join(", ")
 }
 
 fn is_possible(name: &str, number: u8) -> bool {
