@@ -1,7 +1,9 @@
 //! Measures the library's delivery against plain Rust written for speed.
 //!
-//! Both are measured in one run, round by round in turn, on buffers cleared
-//! beforehand; the table shows the median of the rounds.
+//! `speed` measures both in one run, round by round in turn, on buffers
+//! cleared beforehand; the table shows the median of the rounds. `speed
+//! PROGRAM COMMANDS whole|bytes MESSAGES` only delivers, for `./count`, which
+//! counts the instructions of it.
 
 use compare::answer::MESSAGE;
 use compare::engine::Engine;
@@ -10,14 +12,16 @@ use compare::harness::random::Random;
 use compare::harness::traffic::{adding, command, keep_alive, message, naming};
 use compare::record::{AREA, Record};
 use compare::second::Second;
+use std::hint::black_box;
+use std::process::ExitCode;
 use std::time::{Duration, Instant};
 
+/// So many messages are delivered by each program, an equal share in each round.
 const MESSAGES: usize = 10_000;
 const ROUNDS: usize = 5;
+const SHARE: usize = MESSAGES / ROUNDS;
 /// So many different messages are sent again and again.
 const POOL: usize = 100;
-/// A case that would take longer than this gets fewer messages.
-const LONGEST: Duration = Duration::from_secs(20);
 
 /// What a host keeps between calls.
 struct Host {
@@ -52,14 +56,51 @@ const PROGRAMS: [(&str, Deliver); 2] = [("library", by_ours), ("plain", by_fast)
 #[cfg(not(feature = "ours"))]
 const PROGRAMS: [(&str, Deliver); 1] = [("plain", by_fast)];
 
-fn main() {
+fn main() -> ExitCode {
+    let words: Vec<String> = std::env::args().skip(1).collect();
+    let words: Vec<&str> = words.iter().map(String::as_str).collect();
+    let done = match words.as_slice() {
+        [] => {
+            table();
+            Some(())
+        }
+        [program, commands, pieces, messages] => only(program, commands, pieces, messages),
+        _ => None,
+    };
+    match done {
+        Some(()) => ExitCode::SUCCESS,
+        None => {
+            eprintln!("usage: speed [library|plain COMMANDS whole|bytes MESSAGES]");
+            ExitCode::from(2)
+        }
+    }
+}
+
+/// Delivers and measures nothing.
+fn only(program: &str, commands: &str, pieces: &str, messages: &str) -> Option<()> {
+    let (_, deliver) = PROGRAMS.iter().find(|(name, _)| *name == program)?;
+    let whole = match pieces {
+        "whole" => true,
+        "bytes" => false,
+        _ => return None,
+    };
+    let pool = pool(commands.parse().ok()?);
+    let count = messages.parse().ok()?;
+    run(&mut prepared(), *deliver, &pool, whole, count);
+    Some(())
+}
+
+fn table() {
+    if std::env::var_os("MELORWYTH_RUN").is_some_and(|run| !run.is_empty()) {
+        println!("under an emulator: these times say nothing, ./count counts instructions");
+    }
     let names: Vec<&str> = PROGRAMS.iter().map(|(name, _)| *name).collect();
     println!(
-        "programs: {}; ns per message, median of {ROUNDS}",
+        "programs: {}; {MESSAGES} messages each, {ROUNDS} rounds; ns per message, the rounds' median",
         names.join(", ")
     );
     let heads: Vec<String> = names.iter().map(|name| format!("{name:>12}")).collect();
-    println!("commands  pieces    messages {}  ratio", heads.concat());
+    println!("commands  pieces {}  ratio", heads.concat());
     for whole in [true, false] {
         for commands in [1, 10, 100] {
             case(commands, whole);
@@ -70,7 +111,6 @@ fn main() {
 /// Measures one case and prints its line.
 fn case(commands: usize, whole: bool) {
     let pool = pool(commands);
-    let count = affordable(&pool, whole);
     let mut times = vec![Vec::new(); PROGRAMS.len()];
     let mut ends = Vec::new();
     for round in 0..ROUNDS {
@@ -78,7 +118,7 @@ fn case(commands: usize, whole: bool) {
             // The order alternates, so that neither always runs first.
             let place = (round + turn) % PROGRAMS.len();
             let mut host = prepared();
-            times[place].push(run(&mut host, PROGRAMS[place].1, &pool, whole, count));
+            times[place].push(run(&mut host, PROGRAMS[place].1, &pool, whole, SHARE));
             ends.push((host.record, host.area, host.output));
         }
     }
@@ -88,7 +128,7 @@ fn case(commands: usize, whole: bool) {
     );
     let medians: Vec<f64> = times
         .iter_mut()
-        .map(|times| median(times).as_nanos() as f64 / count as f64)
+        .map(|times| median(times).as_nanos() as f64 / SHARE as f64)
         .collect();
     let cells: Vec<String> = medians.iter().map(|time| format!("{time:>12.0}")).collect();
     let pieces = if whole { "whole" } else { "bytes" };
@@ -96,30 +136,12 @@ fn case(commands: usize, whole: bool) {
         [library, plain] => format!("{:>6.2}", library / plain),
         _ => "     -".to_string(),
     };
-    println!(
-        "{commands:>8}  {pieces:<7}{count:>11} {} {ratio}",
-        cells.concat()
-    );
+    println!("{commands:>8}  {pieces:<7}{} {ratio}", cells.concat());
 }
 
 fn median(times: &mut [Duration]) -> Duration {
     times.sort();
     times[times.len() / 2]
-}
-
-/// All messages, or as many as take no longer than the longest time.
-fn affordable(pool: &[Vec<u8>], whole: bool) -> usize {
-    let trial = 20;
-    let mut one = Duration::ZERO;
-    for (_, deliver) in PROGRAMS {
-        one += run(&mut prepared(), deliver, pool, whole, trial) / trial as u32;
-    }
-    let all = one * ROUNDS as u32;
-    let fitting = LONGEST.as_nanos() / all.as_nanos().max(1);
-    match usize::try_from(fitting) {
-        Ok(fitting) if fitting < MESSAGES => (fitting / 100 * 100).max(100),
-        _ => MESSAGES,
-    }
 }
 
 /// Delivers so many messages; answers how long it took.
@@ -129,7 +151,8 @@ fn run(host: &mut Host, deliver: Deliver, pool: &[Vec<u8>], whole: bool, count: 
         let step = if whole { message.len() } else { 1 };
         let mut kind = 0;
         for piece in message.chunks(step) {
-            let (told, taken) = deliver(host, piece);
+            // Neither program may be worked out beforehand or left out.
+            let (told, taken) = black_box(deliver)(host, black_box(piece));
             assert_eq!(taken, piece.len());
             kind = told;
         }
