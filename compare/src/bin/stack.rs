@@ -1,0 +1,185 @@
+//! Measures how much stack each call of the library takes.
+//!
+//! Every call of the gate's runs is made over a stack painted beforehand; the
+//! lowest word that is not the paint's any more tells how deep the call went.
+
+use compare::answer::{
+    Cleared, Closed, Delivered, Entry, Opened, Part, Reading, Taken, Ticked, Written,
+};
+use compare::engine::Engine;
+use compare::harness::call::NAMES;
+use compare::harness::gate;
+use compare::ours::Ours;
+use compare::record::Record;
+use compare::second::Second;
+use std::arch::asm;
+use std::cell::Cell;
+use std::hint::black_box;
+use std::process::ExitCode;
+use std::slice;
+
+/// So many words are painted for each call: far less than the whole stack.
+const WORDS: usize = 8_192;
+const PAINT: u64 = 0xA5C3_5A3C_96F0_0F69;
+/// The painter's and the finder's own frames: what lies so close is not looked at.
+const CLOSE: usize = 256;
+
+/// The library, each call measured.
+#[derive(Debug, Default)]
+struct Painted {
+    deepest: [Cell<usize>; NAMES.len()],
+}
+
+impl Painted {
+    /// Makes a call of that name.
+    #[inline(never)]
+    fn measured<T>(&self, name: &str, call: impl FnOnce() -> T) -> T {
+        let top = stack_pointer();
+        paint(top);
+        let answer = below(call);
+        let depth = depth(top);
+        if let Some(place) = NAMES.iter().position(|other| *other == name) {
+            let deepest = &self.deepest[place];
+            deepest.set(deepest.get().max(depth));
+        }
+        answer
+    }
+}
+
+/// What the call is given by value lies in a frame of its own, below the top.
+#[inline(never)]
+fn below<T>(call: impl FnOnce() -> T) -> T {
+    call()
+}
+
+#[inline(always)]
+fn stack_pointer() -> usize {
+    let pointer: usize;
+    // SAFETY: reads a register and nothing else.
+    unsafe { asm!("mov {}, rsp", out(reg) pointer, options(nomem, nostack, preserves_flags)) };
+    pointer
+}
+
+/// Where the lowest painted word lies.
+fn lowest(top: usize) -> *mut u64 {
+    (((top - CLOSE) & !7) - 8 * WORDS) as *mut u64
+}
+
+#[inline(never)]
+fn paint(top: usize) {
+    // SAFETY: the words lie in the stack, below every frame in use.
+    unsafe { slice::from_raw_parts_mut(black_box(lowest(top)), WORDS) }.fill(PAINT);
+}
+
+/// How far below the top the lowest changed word begins; 0 if none is changed.
+#[inline(never)]
+fn depth(top: usize) -> usize {
+    // SAFETY: the words were painted, and lie below every frame in use.
+    let words = unsafe { slice::from_raw_parts(black_box(lowest(top)), WORDS) };
+    // Block by block without an early end, which is many words at once.
+    let clean = |block: &&[u64]| block.iter().fold(0, |all, word| all | (word ^ PAINT)) == 0;
+    let blocks = words.chunks(64).take_while(clean).count();
+    match words[64 * blocks..].iter().position(|word| *word != PAINT) {
+        Some(place) => top - (lowest(top) as usize + 8 * (64 * blocks + place)),
+        None => 0,
+    }
+}
+
+impl Engine for Painted {
+    fn fresh(&self, reading: u32) -> Record {
+        self.measured("fresh", || Ours.fresh(reading))
+    }
+
+    fn clear(&self, area: &mut [u8]) -> Cleared {
+        self.measured("clear", || Ours.clear(area))
+    }
+
+    fn open(&self, record: Record) -> Opened {
+        self.measured("open", || Ours.open(record))
+    }
+
+    fn close(&self, record: Record, area: &mut [u8], n: u8) -> Closed {
+        self.measured("close", || Ours.close(record, area, n))
+    }
+
+    fn tick(&self, record: Record, area: &mut [u8], reading: u32) -> Ticked {
+        self.measured("tick", || Ours.tick(record, area, reading))
+    }
+
+    fn deliver(
+        &self,
+        record: Record,
+        area: &mut [u8],
+        n: u8,
+        piece: &[u8],
+        output: &mut [u8],
+    ) -> Delivered {
+        self.measured("deliver", || Ours.deliver(record, area, n, piece, output))
+    }
+
+    fn take(&self, record: Record, output: &mut [u8]) -> Taken {
+        self.measured("take", || Ours.take(record, output))
+    }
+
+    fn read_message(&self, bytes: &[u8]) -> Reading {
+        self.measured("read_message", || Ours.read_message(bytes))
+    }
+
+    fn read_entry(&self, bytes: &[u8], index: usize) -> Entry {
+        self.measured("read_entry", || Ours.read_entry(bytes, index))
+    }
+
+    fn entry_part(&self, bytes: &[u8], index: usize) -> Part {
+        self.measured("entry_part", || Ours.entry_part(bytes, index))
+    }
+
+    fn start(&self, buffer: &mut [u8], kind: u8, entry: &[u8]) -> Written {
+        self.measured("start", || Ours.start(buffer, kind, entry))
+    }
+
+    fn append(&self, buffer: &mut [u8], kind: u8, entry: &[u8]) -> Written {
+        self.measured("append", || Ours.append(buffer, kind, entry))
+    }
+
+    fn keep_alive(&self, buffer: &mut [u8], form: u8, value: u32) -> Written {
+        self.measured("keep_alive", || Ours.keep_alive(buffer, form, value))
+    }
+}
+
+/// Whether a call that takes 10,000 bytes and little more is seen to do so.
+fn is_measured_right() -> bool {
+    let tried = Painted::default();
+    tried.measured("fresh", || {
+        black_box(&mut [1_u8; 10_000]).iter().sum::<u8>()
+    });
+    (10_000..11_000).contains(&tried.deepest[0].get())
+}
+
+// No thread: with a second one the emulator is several times slower.
+fn main() -> ExitCode {
+    if !is_measured_right() {
+        println!("FAILED: a stack of known depth is not measured as such");
+        return ExitCode::FAILURE;
+    }
+    let library = Painted::default();
+    let calls = match gate::gate(&library, &Second) {
+        Ok(counts) => counts.total(),
+        Err(difference) => {
+            println!("{difference}");
+            return ExitCode::FAILURE;
+        }
+    };
+    println!("bytes of stack, the deepest of each call's, over {calls} calls");
+    for (name, deepest) in NAMES.iter().zip(&library.deepest) {
+        match deepest.get() {
+            0 => println!("{CLOSE:>8}  {name}, or fewer"),
+            depth => println!("{depth:>8}  {name}"),
+        }
+    }
+    let most = CLOSE + 8 * WORDS;
+    if library.deepest.iter().any(|depth| depth.get() >= most) {
+        println!("FAILED: a call went past the {most} bytes painted");
+        return ExitCode::FAILURE;
+    }
+    ExitCode::SUCCESS
+}
