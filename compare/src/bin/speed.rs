@@ -12,6 +12,7 @@ use compare::harness::random::Random;
 use compare::harness::traffic::{adding, command, keep_alive, message, naming};
 use compare::record::{AREA, Record};
 use compare::second::Second;
+use std::hash::{DefaultHasher, Hash, Hasher};
 use std::hint::black_box;
 use std::process::ExitCode;
 use std::time::{Duration, Instant};
@@ -76,7 +77,7 @@ fn main() -> ExitCode {
     }
 }
 
-/// Delivers and measures nothing.
+/// Delivers and measures nothing; tells the end by a number, to see that both programs come to the same.
 fn only(program: &str, commands: &str, pieces: &str, messages: &str) -> Option<()> {
     let (_, deliver) = PROGRAMS.iter().find(|(name, _)| *name == program)?;
     let whole = match pieces {
@@ -86,7 +87,11 @@ fn only(program: &str, commands: &str, pieces: &str, messages: &str) -> Option<(
     };
     let pool = pool(commands.parse().ok()?);
     let count = messages.parse().ok()?;
-    run(&mut prepared(), *deliver, &pool, whole, count);
+    let mut host = prepared();
+    run(&mut host, *deliver, &pool, whole, count);
+    let mut end = DefaultHasher::new();
+    (format!("{:?}", host.record), host.area, host.output).hash(&mut end);
+    println!("{:016x}", end.finish());
     Some(())
 }
 
