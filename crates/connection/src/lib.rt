@@ -19,6 +19,7 @@ pub const TOP_MILLISECONDS: u64 = 4294967295;
 
 const TOP_COUNT: u64 = 18446744073709551615;
 
+#[repr(C)]
 pub struct Connection {
     pub live: bool,
     pub form: u8,

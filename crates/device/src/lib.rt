@@ -15,6 +15,7 @@ pub mod command;
 // A step of 2^31 or more is a clock that went back.
 const BACK: u32 = 2147483648;
 
+#[repr(C)]
 pub struct Device {
     pub reading: u32,
     pub connections: [Connection; 8],

@@ -19,6 +19,7 @@ pub mod take;
 pub const OUTPUT: usize = 4096;
 
 // The device, and each connection's count of undecided bytes.
+#[repr(C)]
 pub struct Record {
     pub device: Device,
     pub held: [u16; 8],

@@ -39,7 +39,7 @@ pub struct ResponseFields {
 }
 
 // The data from entry index on.
-fn entries_from<'a>(body: &'a [u8], kind: u8, index: usize) -> &'a [u8]
+pub fn entries_from<'a>(body: &'a [u8], kind: u8, index: usize) -> &'a [u8]
     ensures { λ r. ⌜ now r ≡ entriesFrom index kind (now (body .entry)) ⌝ }
 {
     let mut t = body;

@@ -1,2 +1,3 @@
 pub mod Sounds
 pub mod Tells
+pub mod Starts

@@ -1,14 +1,17 @@
 -- Reading entry i and its part: document 01 'The wire' and rows 8, 9 and 12 of 'What calls refuse'.
-use Prim.Native.Nat.{ℕ}
+use Prim.Native.Nat.{ℕ, _+_, _-_, _≤_}
+use mathlib.Core.Path.{_≡_}
 use mathlib.Core.List.{List, [], _∷_}
 use mathlib.Core.Bool.{Bool, cond, false}
+use lib.ListN.{length, take, drop}
 use lib.Dec.{ltb, eqb}
 use Rattle.frame.specs.Limits.{notification, keepAlive}
 use Rattle.frame.specs.Header.{pduType, messageCount}
+use Rattle.frame.specs.Entry.{leastEntry}
 use Rattle.frame.specs.Decide.{decide}
 use Rattle.frame.specs.declared.Decision.{Decision}
 use Rattle.frame.specs.declared.Decision.the-variants.{Undecided, Faulty, Sound}
-use Rattle.fields.specs.Place.{entryBytes, parametersOf}
+use Rattle.fields.specs.Place.{entriesFrom, entryBytes, parametersOf}
 use Rattle.fields.specs.Fields.{commandOf, notificationOf, responseOf}
 use Rattle.reader.specs.Numbers.{fault, short, noEntry, commandNumbers, notificationNumbers, responseNumbers}
 use Rattle.reader.specs.Read.{dataOf}
@@ -49,3 +52,23 @@ partBy (Sound n) s i = partIn s n i
 
 unfoldable pub partOf : List ℕ → ℕ → List ℕ
 partOf s i = partBy (decide s) s i
+
+-- where that part starts in the caller's bytes: the data from entry i on is the message's end, and the part stands behind the least entry
+unfoldable pub startIn : List ℕ → ℕ → ℕ → ℕ
+startIn s n i =
+    cond (hasEntry (pduType s) (messageCount s) i)
+    ((n - length (entriesFrom i (pduType s) (dataOf s n))) + leastEntry (pduType s))
+    0
+
+unfoldable pub startBy : Decision → List ℕ → ℕ → ℕ
+startBy Undecided s i = 0
+startBy (Faulty f n) s i = 0
+startBy (Sound n) s i = startIn s n i
+
+unfoldable pub startOf : List ℕ → ℕ → ℕ
+startOf s i = startBy (decide s) s i
+
+-- "as a part of the caller's message": from its start, as long as it is, the caller's bytes are the part
+pub record PartStands : Type 0 where
+  pub there : (s : List ℕ) (i : ℕ) → take (length (partOf s i)) (drop (startOf s i) s) ≡ partOf s i
+  pub within : (s : List ℕ) (i : ℕ) → startOf s i + length (partOf s i) ≤ length s

@@ -9,10 +9,12 @@ ghost use mathlib.Core.List.{[], _∷_};
 ghost use Prim.Native.Nat.{_≤_};
 ghost use lib.ListN.{length};
 ghost use Rattle.frame.specs.Entry.{leastEntry};
+ghost use Rattle.frame.specs.Header.{pduType};
 ghost use Rattle.frame.specs.Sound.{SoundAt};
+ghost use Rattle.fields.specs.Place.{entriesFrom};
 ghost use Rattle.reader.specs.Numbers.{messageNumbers, readingNumbers, entryNumbers};
-ghost use Rattle.reader.specs.Read.{messageOf, readOf};
-ghost use Rattle.reader.specs.Entry.{hasEntry, fieldsOf, entryAt, entryIn, entryOf, partIn, partOf};
+ghost use Rattle.reader.specs.Read.{dataOf, messageOf, readOf};
+ghost use Rattle.reader.specs.Entry.{hasEntry, fieldsOf, entryAt, entryIn, entryOf, partIn, partOf, startIn, startOf, PartStands};
 ghost use Rattle.reader.specs.Tell.{NumbersTell};
 ghost use Rattle.reader.specs.Examples.{ExamplesRead};
 
@@ -146,6 +148,41 @@ pub fn entry_part<'a>(s: &'a [u8], index: usize) -> &'a [u8]
         Decision::Sound(n) => part_in(s, n, index),
     }
 }
+
+// The data of the sound message of n bytes from entry index on.
+fn entries_at<'a>(s: &'a [u8], n: usize, index: usize) -> &'a [u8]
+    requires { ⌜ SoundAt (now s) n ⌝ }
+    ensures { λ r. ⌜ now r ≡ entriesFrom index (pduType (now (s .entry))) (dataOf (now (s .entry)) n) ⌝ }
+{
+    fields::entries_from(&s[frame::HEADER_END..n], s[7], index)
+}
+
+fn start_in(s: &[u8], n: usize, index: usize) -> usize
+    requires { ⌜ SoundAt (now s) n ⌝ }
+    ensures { λ r. ⌜ r ≡ startIn (now (s .entry)) n index ⌝ }
+{
+    if has_entry(s[7], octets::be16(s, 8), index) {
+        let entries = entries_at(s, n, index);
+        return n - entries.len() + frame::least_entry(s[7]);
+    }
+    0
+}
+
+// Where entry index's part starts in s, for a caller that cannot be handed a slice: 0 where the entry is refused.
+pub fn part_start(s: &[u8], index: usize) -> usize
+    ensures { λ r. ⌜ r ≡ startOf (now (s .entry)) index ⌝ }
+{
+    match frame::decide(s) {
+        Decision::Undecided => 0,
+        Decision::Faulty(_, _) => 0,
+        Decision::Sound(n) => start_in(s, n, index),
+    }
+}
+
+// The bytes from there on, as many as the part has, are the part.
+pub fn part_stands()
+    ensures { λ r. ⌜ PartStands ⌝ }
+{}
 
 // The numbers of an answer tell it from every other.
 pub fn numbers_tell()

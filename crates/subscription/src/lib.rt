@@ -18,6 +18,7 @@ pub const LAST_MUTE: u32 = 4104;
 pub const CHANGE_EVENT: u32 = 65537;
 
 // An event and a method are level x 65,536 + index.
+#[repr(C)]
 pub struct Subscription {
     pub used: bool,
     pub waiting: bool,

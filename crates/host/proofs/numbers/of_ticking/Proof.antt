@@ -1,0 +1,75 @@
+use Rattle.endpoint.specs.Numbers.{tickingNumbers}
+use Rattle.host.specs.Numbers.{pairOf}
+use borrow.Author.Needs.{needs}
+use Rattle.host.proofs.numbers.of_ticking.Statement.{statement}
+use Rattle.host.proofs.numbers.of_ticking.Tie as tie
+
+enum-known-answer : tie.Need-enum-known-answer
+enum-known-answer c = search needs
+
+both-requires : tie.Need-both-requires
+both-requires c κs = search needs
+
+enum-told : tie.Need-enum-told
+enum-told c = search needs
+
+both-requires-2 : tie.Need-both-requires-2
+both-requires-2 c κs = search needs
+
+enum-told-2 : tie.Need-enum-told-2
+enum-told-2 c = search needs
+
+both-requires-3 : tie.Need-both-requires-3
+both-requires-3 c κs = search needs
+
+enum-told-3 : tie.Need-enum-told-3
+enum-told-3 c = search needs
+
+both-requires-4 : tie.Need-both-requires-4
+both-requires-4 c κs = search needs
+
+enum-told-4 : tie.Need-enum-told-4
+enum-told-4 c = search needs
+
+both-requires-5 : tie.Need-both-requires-5
+both-requires-5 c κs = search needs
+
+returns : tie.Need-returns
+unfolding tickingNumbers pairOf
+returns c = simp (c .before .before .answer .given .1) (cc)
+
+returns-2 : tie.Need-returns-2
+unfolding tickingNumbers pairOf
+returns-2 c = simp (c .before .enum-told .given .1, c .both2 .ensures)
+
+returns-3 : tie.Need-returns-3
+unfolding tickingNumbers pairOf
+returns-3 c = simp (c .before .enum-told2 .given .1, c .both3 .ensures)
+
+returns-4 : tie.Need-returns-4
+unfolding tickingNumbers pairOf
+returns-4 c = simp (c .before .enum-told3 .given .1, c .both4 .ensures)
+
+returns-5 : tie.Need-returns-5
+unfolding tickingNumbers pairOf
+returns-5 c = simp (c .before .enum-told4 .given .1, c .both5 .ensures)
+
+pub of-ticking-spec : {M : Type 1} → statement M
+of-ticking-spec =
+    tie.close
+    (tie.spec
+    enum-known-answer
+    both-requires
+    enum-told
+    both-requires-2
+    enum-told-2
+    both-requires-3
+    enum-told-3
+    both-requires-4
+    enum-told-4
+    both-requires-5
+    returns
+    returns-2
+    returns-3
+    returns-4
+    returns-5)

@@ -1,0 +1,161 @@
+// The C boundary: every call of the endpoint, the reader and the writer, with numbers, slices and structs by value.
+use endpoint::Record;
+ghost use mathlib.Core.Path.{_≡_};
+ghost use Rattle.endpoint.specs.State.{freshState};
+ghost use Rattle.endpoint.specs.Calls.{clearAnswer, clearedArea, openCall, closeCall, tickCall};
+ghost use Rattle.endpoint.specs.Deliver.{deliverCall};
+ghost use Rattle.endpoint.specs.Take.{takeCall};
+ghost use Rattle.host.specs.Answers.{clearedOf, openedOf, closedOf, tickedOf, deliveredOf, takenOf};
+
+pub mod messages;
+mod numbers;
+
+#[repr(C)]
+pub struct Cleared {
+    pub number: u8,
+}
+
+#[repr(C)]
+pub struct Opened {
+    pub state: Record,
+    pub number: u8,
+    pub connection: u8,
+}
+
+#[repr(C)]
+pub struct Closed {
+    pub state: Record,
+    pub number: u8,
+}
+
+#[repr(C)]
+pub struct Ticked {
+    pub state: Record,
+    pub number: u8,
+    // bit n is set for connection n closed
+    pub closed: u8,
+}
+
+#[repr(C)]
+pub struct Delivered {
+    pub state: Record,
+    pub number: u8,
+    // 1 more needed, 2 a message, 3 closed
+    pub kind: u8,
+    pub fault: u8,
+    pub taken: usize,
+    pub length: usize,
+}
+
+#[repr(C)]
+pub struct Taken {
+    pub state: Record,
+    pub number: u8,
+    // 0 nothing, 1 a notification, 2 a keep-alive
+    pub kind: u8,
+    pub connection: u8,
+    pub length: usize,
+}
+
+#[no_mangle]
+pub extern "C" fn melorwyth_fresh(reading: u32) -> Record
+    ensures { λ r. ⌜ r ≡ freshState reading ⌝ }
+{
+    Record::fresh(reading)
+}
+
+#[no_mangle]
+pub extern "C" fn melorwyth_clear(area: &mut [u8]) -> Cleared
+    ensures { λ r. ⌜ (r ≡ clearedOf (clearAnswer (now (area .entry)))) × (now (area .exit) ≡ clearedArea (now (area .entry))) ⌝ }
+{
+    let answer = endpoint::clear_area(area);
+    Cleared {
+        number: numbers::of_clearing(answer),
+    }
+}
+
+#[no_mangle]
+pub extern "C" fn melorwyth_open(state: Record) -> Opened
+    ensures { λ r. ⌜ r ≡ openedOf (openCall state) ⌝ }
+{
+    let done = state.open();
+    let next = done.state;
+    let answer = done.answer;
+    let told = numbers::of_opening(answer);
+    Opened {
+        state: next,
+        number: told.number,
+        connection: told.value,
+    }
+}
+
+#[no_mangle]
+pub extern "C" fn melorwyth_close(state: Record, area: &mut [u8], n: u8) -> Closed
+    ensures { λ r. ⌜ (r ≡ closedOf (closeCall state (now (area .entry)) n)) × (now (area .exit) ≡ closeCall state (now (area .entry)) n .area) ⌝ }
+{
+    let done = state.close(area, n);
+    let next = done.state;
+    let answer = done.answer;
+    Closed {
+        state: next,
+        number: numbers::of_closing(answer),
+    }
+}
+
+#[no_mangle]
+pub extern "C" fn melorwyth_tick(state: Record, area: &mut [u8], reading: u32) -> Ticked
+    ensures { λ r. ⌜ (r ≡ tickedOf (tickCall state (now (area .entry)) reading)) × (now (area .exit) ≡ tickCall state (now (area .entry)) reading .area) ⌝ }
+{
+    let done = state.tick(area, reading);
+    let next = done.state;
+    let answer = done.answer;
+    let told = numbers::of_ticking(answer);
+    Ticked {
+        state: next,
+        number: told.number,
+        closed: told.value,
+    }
+}
+
+#[no_mangle]
+pub extern "C" fn melorwyth_deliver(
+    state: Record,
+    area: &mut [u8],
+    n: u8,
+    piece: &[u8],
+    output: &mut [u8],
+) -> Delivered
+    ensures { λ r. ⌜ (r ≡ deliveredOf (deliverCall state (now (area .entry)) n (now (piece .entry)) (now (output .entry))))
+        × (now (area .exit) ≡ deliverCall state (now (area .entry)) n (now (piece .entry)) (now (output .entry)) .area)
+        × (now (output .exit) ≡ deliverCall state (now (area .entry)) n (now (piece .entry)) (now (output .entry)) .output) ⌝ }
+{
+    let done = state.deliver(area, n, piece, output);
+    let next = done.state;
+    let answer = done.answer;
+    let told = numbers::of_delivery(answer);
+    Delivered {
+        state: next,
+        number: told.number,
+        kind: told.kind,
+        fault: told.fault,
+        taken: told.taken,
+        length: told.length,
+    }
+}
+
+#[no_mangle]
+pub extern "C" fn melorwyth_take(state: Record, output: &mut [u8]) -> Taken
+    ensures { λ r. ⌜ (r ≡ takenOf (takeCall state (now (output .entry)))) × (now (output .exit) ≡ takeCall state (now (output .entry)) .output) ⌝ }
+{
+    let done = state.take(output);
+    let next = done.state;
+    let answer = done.answer;
+    let told = numbers::of_taking(answer);
+    Taken {
+        state: next,
+        number: told.number,
+        kind: told.kind,
+        connection: told.connection,
+        length: told.length,
+    }
+}
