@@ -42,19 +42,19 @@ plain-requires-4 c κs = search needs
 
 returns : tie.Need-returns
 unfolding entryNumbers responseNumbers entryFrom
-returns c = simp (c .before .before .answer .given .1) (cc)
+returns c = simp (c .before .before .answer .given .1, c .of-command .ensures)
 
 returns-2 : tie.Need-returns-2
 unfolding entryNumbers responseNumbers entryFrom
-returns-2 c = simp (c .before .before .answer2 .given .1) (cc)
+returns-2 c = simp (c .before .before .answer2 .given .1, c .of-notification .ensures)
 
 returns-3 : tie.Need-returns-3
 unfolding entryNumbers responseNumbers entryFrom
-returns-3 c = simp (c .before .before .answer3 .given .1) (cc)
+returns-3 c = simp (c .before .before .answer3 .given .1, c .plain .ensures)
 
 returns-4 : tie.Need-returns-4
 unfolding entryNumbers responseNumbers entryFrom
-returns-4 c = simp (c .before .before .answer4 .given .1) (cc)
+returns-4 c = simp (c .before .before .answer4 .given .1, c .plain2 .ensures)
 
 returns-5 : tie.Need-returns-5
 unfolding entryNumbers responseNumbers entryFrom

@@ -42,19 +42,19 @@ read-requires-5 c κs = search needs
 
 returns : tie.Need-returns
 unfolding messageNumbers heartbeatNumbers readingOf
-returns c = simp (c .before .before .message .given .1) (cc)
+returns c = simp (c .before .before .message .given .1, c .read .ensures)
 
 returns-2 : tie.Need-returns-2
 unfolding messageNumbers heartbeatNumbers readingOf
-returns-2 c = simp (c .before .before .message2 .given .1) (cc)
+returns-2 c = simp (c .before .before .message2 .given .1, c .read2 .ensures)
 
 returns-3 : tie.Need-returns-3
 unfolding messageNumbers heartbeatNumbers readingOf
-returns-3 c = simp (c .before .before .message3 .given .1) (cc)
+returns-3 c = simp (c .before .before .message3 .given .1, c .read3 .ensures)
 
 returns-4 : tie.Need-returns-4
 unfolding messageNumbers heartbeatNumbers readingOf
-returns-4 c = simp (c .before .before .message4 .given .1) (cc)
+returns-4 c = simp (c .before .before .message4 .given .1, c .read4 .ensures)
 
 returns-5 : tie.Need-returns-5
 unfolding messageNumbers heartbeatNumbers readingOf

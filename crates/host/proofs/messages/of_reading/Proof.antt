@@ -24,11 +24,11 @@ unread-requires-2 c κs = search needs
 
 returns : tie.Need-returns
 unfolding readingNumbers readingOf
-returns c = simp (c .before .before .answer .given .1) (cc)
+returns c = simp (c .before .before .answer .given .1, c .of-message .ensures)
 
 returns-2 : tie.Need-returns-2
 unfolding readingNumbers readingOf
-returns-2 c = simp (c .before .before .answer2 .given .1) (cc)
+returns-2 c = simp (c .before .before .answer2 .given .1, c .unread .ensures)
 
 returns-3 : tie.Need-returns-3
 unfolding readingNumbers readingOf

@@ -36,7 +36,7 @@ put-requires-5 c κs = search needs
 
 returns : tie.Need-returns
 unfolding writtenNumbers writtenOf
-returns c = simp (c .before .before .answer .given .1) (cc)
+returns c = simp (c .before .before .answer .given .1, c .put .ensures)
 
 returns-2 : tie.Need-returns-2
 unfolding writtenNumbers writtenOf
@@ -44,7 +44,7 @@ returns-2 c = simp (c .before .enum-told .given .1, c .put2 .ensures)
 
 returns-3 : tie.Need-returns-3
 unfolding writtenNumbers writtenOf
-returns-3 c = simp (c .before .before .answer2 .given .1) (cc)
+returns-3 c = simp (c .before .before .answer2 .given .1, c .put3 .ensures)
 
 returns-4 : tie.Need-returns-4
 unfolding writtenNumbers writtenOf

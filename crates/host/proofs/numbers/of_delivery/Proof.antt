@@ -48,15 +48,15 @@ delivery-requires-7 c κs = search needs
 
 returns : tie.Need-returns
 unfolding deliveryNumbers deliveryOf
-returns c = simp (c .before .before .answer .given .1) (cc)
+returns c = simp (c .before .before .answer .given .1, c .delivery .ensures)
 
 returns-2 : tie.Need-returns-2
 unfolding deliveryNumbers deliveryOf
-returns-2 c = simp (c .before .before .answer2 .given .1) (cc)
+returns-2 c = simp (c .before .before .answer2 .given .1, c .delivery2 .ensures)
 
 returns-3 : tie.Need-returns-3
 unfolding deliveryNumbers deliveryOf
-returns-3 c = simp (c .before .before .answer3 .given .1) (cc)
+returns-3 c = simp (c .before .before .answer3 .given .1, c .delivery3 .ensures)
 
 returns-4 : tie.Need-returns-4
 unfolding deliveryNumbers deliveryOf

@@ -24,7 +24,7 @@ both-requires-3 c κs = search needs
 
 returns : tie.Need-returns
 unfolding openingNumbers pairOf
-returns c = simp (c .before .before .answer .given .1) (cc)
+returns c = simp (c .before .before .answer .given .1, c .both .ensures)
 
 returns-2 : tie.Need-returns-2
 unfolding openingNumbers pairOf

@@ -40,11 +40,11 @@ returns c = simp (c .before .enum-told .given .1, c .taking .ensures)
 
 returns-2 : tie.Need-returns-2
 unfolding takingNumbers takingOf
-returns-2 c = simp (c .before .before .answer .given .1) (cc)
+returns-2 c = simp (c .before .before .answer .given .1, c .taking2 .ensures)
 
 returns-3 : tie.Need-returns-3
 unfolding takingNumbers takingOf
-returns-3 c = simp (c .before .before .answer2 .given .1) (cc)
+returns-3 c = simp (c .before .before .answer2 .given .1, c .taking3 .ensures)
 
 returns-4 : tie.Need-returns-4
 unfolding takingNumbers takingOf

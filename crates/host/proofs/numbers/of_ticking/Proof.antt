@@ -36,7 +36,7 @@ both-requires-5 c κs = search needs
 
 returns : tie.Need-returns
 unfolding tickingNumbers pairOf
-returns c = simp (c .before .before .answer .given .1) (cc)
+returns c = simp (c .before .before .answer .given .1, c .both .ensures)
 
 returns-2 : tie.Need-returns-2
 unfolding tickingNumbers pairOf

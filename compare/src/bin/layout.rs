@@ -1,0 +1,34 @@
+//! The layout of every struct of the C boundary: its size, and where each
+//! field stands. `boundary/layout.c` prints the same from the C header.
+
+use compare::answer::{
+    Cleared, Closed, Delivered, Entry, Opened, Part, Reading, Taken, Ticked, Written,
+};
+use compare::record::{Connection, Device, Record, Subscription};
+use std::mem::{offset_of, size_of};
+
+/// One line for the struct, and one for each of its fields.
+macro_rules! tell {
+    ($name:ident: $($field:ident),+) => {
+        println!("{} {}", stringify!($name), size_of::<$name>());
+        $(println!("{}.{} {}", stringify!($name), stringify!($field), offset_of!($name, $field));)+
+    };
+}
+
+fn main() {
+    tell!(Connection: live, form, beat, silence, quiet, due);
+    tell!(Subscription: used, waiting, connection, emitter, event, object, method, context);
+    tell!(Device: reading, connections, subscriptions, mutes, holders);
+    tell!(Record: device, held);
+    tell!(Cleared: number);
+    tell!(Opened: record, number, connection);
+    tell!(Closed: record, number);
+    tell!(Ticked: record, number, closed);
+    tell!(Delivered: record, number, kind, fault, taken, length);
+    tell!(Taken: record, number, kind, connection, length);
+    tell!(Reading: number, fault, kind, count, form, value, length);
+    tell!(Entry: number, fault, kind, handle, target, level, index, count, status, context, emitter,
+        event_level, event_index);
+    tell!(Part: start, length);
+    tell!(Written: number, fault, length);
+}

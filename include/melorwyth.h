@@ -1,0 +1,358 @@
+/*
+ * Melorwyth: an AES70 (OCP.1) device endpoint whose behaviour is proved.
+ *
+ * The library reads and writes messages, keeps locks and subscriptions, and
+ * decides when a controller is gone. Sockets, TLS, discovery and the clock are
+ * yours. It has no heap, no globals, no threads and no callbacks: all state is
+ * a record and an area of bytes, and both are yours. Link libhost.a (x86-64,
+ * System V); of the C library it needs memcpy and memset.
+ *
+ * HOW IT IS USED
+ *
+ *     static uint8_t area[MELORWYTH_AREA], output[MELORWYTH_OUTPUT];
+ *     melorwyth_record record = melorwyth_fresh(milliseconds());
+ *     melorwyth_clear(area, sizeof area);
+ *
+ *   a socket was accepted
+ *     melorwyth_opened o = melorwyth_open(record);
+ *     record = o.record;
+ *     if (o.number != 0) { 5: all eight are taken; close the socket }
+ *     else o.connection is its number, 0 to 7
+ *
+ *   bytes came in on connection n
+ *     while (length > 0) {
+ *         melorwyth_delivered d = melorwyth_deliver(record, area, sizeof area, n,
+ *                                     bytes, length, output, sizeof output);
+ *         record = d.record;
+ *         if (d.number != 0) { a refusal: see below; break }
+ *         bytes += d.taken; length -= d.taken;
+ *         if (d.kind == MELORWYTH_MESSAGE && d.length > 0) send output, d.length bytes, on n
+ *         if (d.kind == MELORWYTH_CLOSED) { d.fault says why; close the socket; break }
+ *     }
+ *
+ *   every 100 ms or so
+ *     melorwyth_ticked t = melorwyth_tick(record, area, sizeof area, milliseconds());
+ *     record = t.record;
+ *     close the socket of every n for which t.closed has bit n
+ *
+ *   after deliveries and ticks, until kind is 0
+ *     melorwyth_taken k = melorwyth_take(record, output, sizeof output);
+ *     record = k.record;
+ *     if (k.kind != 0) send output, k.length bytes, on k.connection
+ *
+ *   a socket was closed by the other side
+ *     melorwyth_closed c = melorwyth_close(record, area, sizeof area, n);
+ *     record = c.record;
+ *
+ * WHO OWNS WHAT
+ *
+ * - The record is passed and handed back by value. Keep the one that the last
+ *   call handed back and pass it to the next, unchanged. An older one is another
+ *   history: do not go back to it.
+ * - The area goes with the record: one area for one record, the same one in
+ *   every call, changed by nobody else in between.
+ * - Pieces, entries and messages that are read are only read. Nothing is kept of
+ *   any pointer after a call.
+ * - An output or buffer keeps its bytes behind what was written.
+ * - There is no lock inside. One record is one thread's at a time.
+ *
+ * WHAT A REFUSAL IS
+ *
+ * Every answer has a number: 0, or the lowest refusal that applies, where
+ * nothing has been changed: the record handed back is the one passed, and every
+ * buffer is as it was. All other fields of the answer are then 0, but for the
+ * fault of refusal 8. No call has a condition to be met first: whatever numbers
+ * and bytes are passed, the answer is the one that docs/PROMISES.md says. From a
+ * fresh record and a cleared area, used as above, refusals 1, 2 and 7 never come.
+ *
+ * WHAT A HOST MUST NOT DO
+ *
+ * These are beyond what a proof about the library can reach.
+ *
+ * - pass a length that is more than the bytes there are, or a null pointer with
+ *   a length above 0 (with length 0 pass any pointer, best not null: an empty
+ *   piece is a piece);
+ * - let two buffers of one call overlap;
+ * - put anything but 0 or 1 into a bool of the record;
+ * - pass one record and area to two calls at the same time;
+ * - call with less than about 24 KB of stack: records pass by value, and the
+ *   largest frame, that of melorwyth_deliver, is 14 KB.
+ *
+ * A record that was changed between calls is not in this list: if it breaks a
+ * record rule it is refused by 1, and if it keeps them it is simply another state.
+ *
+ * Numbers in structs are in the machine's own byte order. Bytes of messages are
+ * as on the wire, most significant first.
+ */
+#ifndef MELORWYTH_H
+#define MELORWYTH_H
+
+#include <stdbool.h>
+#include <stddef.h>
+#include <stdint.h>
+
+#ifdef __cplusplus
+extern "C" {
+#endif
+
+/* ---- sizes ------------------------------------------------------------- */
+
+#define MELORWYTH_CONNECTIONS 8
+#define MELORWYTH_SUBSCRIPTIONS 32
+#define MELORWYTH_MUTES 8
+/* The area: exactly so long. Connection n's undecided bytes stand at 2,049 n, zeros after them. */
+#define MELORWYTH_AREA 16392
+/* The output of deliver and take: at least so long. */
+#define MELORWYTH_OUTPUT 4096
+/* The longest reply to a delivered message. */
+#define MELORWYTH_LONGEST_REPLY 2628
+/* The buffer of the writer: at least so long, which is the longest message. */
+#define MELORWYTH_BUFFER 2049
+
+/* ---- refusals: the field number of every answer ------------------------ */
+
+#define MELORWYTH_DONE 0
+/* A record rule is broken: this is no record that a call handed back. */
+#define MELORWYTH_BAD_RECORD 1
+/* The area is not 16,392 bytes, or does not hold what the record counts. */
+#define MELORWYTH_BAD_AREA 2
+/* The connection's number is above 7, or it is not open. */
+#define MELORWYTH_NO_CONNECTION 3
+/* The output is under 4,096 bytes (deliver, take), or the buffer under 2,049 (writer). */
+#define MELORWYTH_NO_ROOM 4
+/* All eight connections are open. */
+#define MELORWYTH_TABLE_FULL 5
+/* This reading less the last, modulo 2^32, is 2^31 or more: the clock went back, or more than 24 days passed. */
+#define MELORWYTH_CLOCK_BACK 6
+/* Silence or quiet plus the step does not fit 64 bits. */
+#define MELORWYTH_OVERRUN 7
+/* Reader and append: the bytes are no sound message; the field fault says why. */
+#define MELORWYTH_FAULT 8
+/* Reader: the bytes end before it is decided what they are. */
+#define MELORWYTH_SHORT 9
+/* Writer: the message would pass pduSize 2,048. */
+#define MELORWYTH_TOO_LONG 10
+/* Writer: no well formed entry, or not of the message's type, or appended to a keep-alive;
+   or a keep-alive of no known form, or in seconds with a value above 65,535. */
+#define MELORWYTH_BAD_ENTRY 11
+/* Reader: the entry's number is not below the message's count, or it is a keep-alive. */
+#define MELORWYTH_NO_ENTRY 12
+
+/* ---- faults: why bytes are no sound message ----------------------------- */
+
+/* The first byte is not 3B. */
+#define MELORWYTH_FAULT_START 1
+/* protocolVersion is not 1. */
+#define MELORWYTH_FAULT_VERSION 2
+/* pduSize is below 9 or above 2,048. */
+#define MELORWYTH_FAULT_SIZE 3
+/* pduType is above 4. */
+#define MELORWYTH_FAULT_TYPE 4
+/* messageCount is 0, or not 1 for a keep-alive. */
+#define MELORWYTH_FAULT_COUNT 5
+/* The entries do not fill the data, one is not well formed, or a keep-alive has other than 2 or 4 bytes. */
+#define MELORWYTH_FAULT_DATA 6
+
+/* ---- types of messages and entries --------------------------------------- */
+
+#define MELORWYTH_TYPE_COMMAND 0
+#define MELORWYTH_TYPE_COMMAND_WANTING_REPLY 1
+#define MELORWYTH_TYPE_NOTIFICATION 2
+#define MELORWYTH_TYPE_RESPONSE 3
+#define MELORWYTH_TYPE_KEEP_ALIVE 4
+
+/* The forms of a keep-alive. */
+#define MELORWYTH_SECONDS 1
+#define MELORWYTH_MILLISECONDS 2
+
+/* ---- the record ----------------------------------------------------------
+ * To be passed on, and to be looked at: the fields may be read at any time, as
+ * for a display. Nothing need be written into them.
+ */
+
+typedef struct melorwyth_connection {
+    bool live;         /* whether it is open; a closed one is all 0 */
+    uint8_t form;      /* of its heartbeat: 0 none, 1 seconds, 2 milliseconds */
+    uint64_t beat;     /* the heartbeat H in milliseconds; 0: it is not supervised */
+    uint64_t silence;  /* milliseconds since a sound message was heard; it is closed at 3 H */
+    uint64_t quiet;    /* milliseconds since something was sent to it */
+    bool due;          /* whether a keep-alive is to be taken for it */
+} melorwyth_connection;
+
+typedef struct melorwyth_subscription {
+    bool used;           /* a free entry is all 0 */
+    bool waiting;        /* whether a notification is to be taken for it */
+    uint8_t connection;  /* whose it is */
+    uint32_t emitter;    /* the mute, 4097 to 4104 */
+    uint32_t event;      /* level times 65,536 plus index: always 1.1 */
+    uint32_t object;     /* the subscriber's object */
+    uint32_t method;     /* the subscriber's method: level times 65,536 plus index */
+    uint32_t context;    /* sent with each notification, most significant byte first */
+} melorwyth_subscription;
+
+typedef struct melorwyth_device {
+    uint32_t reading;  /* the last reading of your millisecond counter */
+    melorwyth_connection connections[MELORWYTH_CONNECTIONS];
+    melorwyth_subscription subscriptions[MELORWYTH_SUBSCRIPTIONS];
+    uint8_t mutes[MELORWYTH_MUTES];    /* object 4097 + i: 1 muted, 2 unmuted */
+    uint8_t holders[MELORWYTH_MUTES];  /* who holds the lock of object 4097 + i: 0 nobody, else the connection plus 1 */
+} melorwyth_device;
+
+typedef struct melorwyth_record {
+    melorwyth_device device;
+    uint16_t held[MELORWYTH_CONNECTIONS];  /* how many undecided bytes each connection has in the area */
+} melorwyth_record;
+
+/* ---- the answers of the endpoint ------------------------------------------ */
+
+typedef struct melorwyth_cleared {
+    uint8_t number;  /* 0 or 2 */
+} melorwyth_cleared;
+
+typedef struct melorwyth_opened {
+    melorwyth_record record;
+    uint8_t number;      /* 0, 1 or 5 */
+    uint8_t connection;  /* the number opened, the lowest that was free */
+} melorwyth_opened;
+
+typedef struct melorwyth_closed {
+    melorwyth_record record;
+    uint8_t number;  /* 0, 1, 2 or 3 */
+} melorwyth_closed;
+
+typedef struct melorwyth_ticked {
+    melorwyth_record record;
+    uint8_t number;  /* 0, 1, 2, 6 or 7 */
+    uint8_t closed;  /* bit n is set for connection n closed */
+} melorwyth_ticked;
+
+/* The kinds of a delivery's answer. */
+#define MELORWYTH_MORE 1     /* more bytes are needed: all of the piece was taken */
+#define MELORWYTH_MESSAGE 2  /* a message was decided and run: length is that of the reply, 0 for none */
+#define MELORWYTH_CLOSED 3   /* a fault closed the connection */
+
+typedef struct melorwyth_delivered {
+    melorwyth_record record;
+    uint8_t number;  /* 0, 1, 2, 3 or 4 */
+    uint8_t kind;    /* 1, 2 or 3 as above */
+    uint8_t fault;   /* kind 3: which fault, 1 to 6 */
+    size_t taken;    /* how many bytes of the piece were taken: offer the rest again */
+    size_t length;   /* kind 2: the length of the reply at the front of the output */
+} melorwyth_delivered;
+
+/* The kinds of a taking's answer. */
+#define MELORWYTH_NOTHING 0
+#define MELORWYTH_NOTIFICATION 1
+#define MELORWYTH_KEEP_ALIVE 2
+
+typedef struct melorwyth_taken {
+    melorwyth_record record;
+    uint8_t number;      /* 0, 1 or 4 */
+    uint8_t kind;        /* 0, 1 or 2 as above */
+    uint8_t connection;  /* to whom it is to be sent */
+    size_t length;       /* the length of the message at the front of the output */
+} melorwyth_taken;
+
+/* ---- the answers of reader and writer ------------------------------------- */
+
+typedef struct melorwyth_reading {
+    uint8_t number;  /* 0, 8 or 9 */
+    uint8_t fault;   /* refusal 8: which fault */
+    uint8_t kind;    /* the message's type, 0 to 4 */
+    uint16_t count;  /* messageCount */
+    uint8_t form;    /* a keep-alive's form: 1 seconds, 2 milliseconds; else 0 */
+    uint32_t value;  /* a keep-alive's value in that form's unit; else 0 */
+    size_t length;   /* the message's length, its 3B counted: pduSize plus 1 */
+} melorwyth_reading;
+
+/* Fields that an entry of that kind does not have are 0. */
+typedef struct melorwyth_entry {
+    uint8_t number;        /* 0, 8, 9 or 12 */
+    uint8_t fault;         /* refusal 8: which fault */
+    uint8_t kind;          /* 0 a command of type 0 or 1, 2 a notification, 3 a response */
+    uint32_t handle;       /* command, response */
+    uint32_t target;       /* command, notification */
+    uint16_t level;        /* the method's level: command, notification */
+    uint16_t index;        /* the method's index */
+    uint8_t count;         /* the parameter count */
+    uint8_t status;        /* response */
+    uint32_t context;      /* notification, as are the fields below */
+    uint32_t emitter;
+    uint16_t event_level;
+    uint16_t event_index;
+} melorwyth_entry;
+
+/* The length bytes from bytes + start on; both 0 where the entry is refused. */
+typedef struct melorwyth_part {
+    size_t start;
+    size_t length;
+} melorwyth_part;
+
+typedef struct melorwyth_written {
+    uint8_t number;  /* 0, 4, 8 (append), 10 or 11 */
+    uint8_t fault;   /* refusal 8: which fault */
+    size_t length;   /* the length of the message at the front of the buffer, its 3B counted */
+} melorwyth_written;
+
+/* ---- the endpoint ----------------------------------------------------------- */
+
+/* A record to start with: all connections closed, all channels unmuted, no lock, no subscription.
+   The reading is that of a free-running 32-bit millisecond counter, now. */
+melorwyth_record melorwyth_fresh(uint32_t reading);
+
+/* Zeros an area, for a fresh record. It refuses only by the length. */
+melorwyth_cleared melorwyth_clear(uint8_t *area, size_t area_length);
+
+/* Opens the lowest free connection. */
+melorwyth_opened melorwyth_open(melorwyth_record record);
+
+/* Closes connection n: its locks, subscriptions and undecided bytes are gone. */
+melorwyth_closed melorwyth_close(melorwyth_record record, uint8_t *area, size_t area_length, uint8_t n);
+
+/* Brings time: the counter's reading now. Connections silent for 3 H or more are closed. */
+melorwyth_ticked melorwyth_tick(melorwyth_record record, uint8_t *area, size_t area_length, uint32_t reading);
+
+/* Gives connection n a piece of what it received. Bytes are taken up to and including the first
+   that decides something, so that a call runs at most one message. */
+melorwyth_delivered melorwyth_deliver(melorwyth_record record, uint8_t *area, size_t area_length, uint8_t n,
+                                      const uint8_t *piece, size_t piece_length,
+                                      uint8_t *output, size_t output_length);
+
+/* Writes one message that is to be sent, and names its connection: the notification of the lowest
+   waiting subscription, else a keep-alive for the lowest connection due, else nothing. */
+melorwyth_taken melorwyth_take(melorwyth_record record, uint8_t *output, size_t output_length);
+
+/* ---- the reader: for whole messages, with no record --------------------------- */
+
+/* The message at the front of the bytes; those behind it are not looked at. */
+melorwyth_reading melorwyth_read_message(const uint8_t *bytes, size_t bytes_length);
+
+/* Entry index of that message, from 0. */
+melorwyth_entry melorwyth_read_entry(const uint8_t *bytes, size_t bytes_length, size_t index);
+
+/* Where that entry's parameters stand in the bytes (a notification's event parameters). */
+melorwyth_part melorwyth_entry_part(const uint8_t *bytes, size_t bytes_length, size_t index);
+
+/* ---- the writer: for whole messages, with no record ---------------------------- */
+
+/* Starts a message of that type with one entry, given as its bytes, its size field included. */
+melorwyth_written melorwyth_start(uint8_t *buffer, size_t buffer_length, uint8_t kind,
+                                  const uint8_t *entry, size_t entry_length);
+
+/* Appends an entry to the sound message at the buffer's front. */
+melorwyth_written melorwyth_append(uint8_t *buffer, size_t buffer_length, uint8_t kind,
+                                   const uint8_t *entry, size_t entry_length);
+
+/* Writes a keep-alive: form 1 and seconds, or form 2 and milliseconds. */
+melorwyth_written melorwyth_keep_alive(uint8_t *buffer, size_t buffer_length, uint8_t form, uint32_t value);
+
+/* ---- the archive's layout: a compiler that lays the record out in another way stops here -------- */
+
+typedef char melorwyth_record_has_1128_bytes[sizeof(melorwyth_record) == 1128 ? 1 : -1];
+typedef char melorwyth_delivered_has_1152_bytes[sizeof(melorwyth_delivered) == 1152 ? 1 : -1];
+
+#ifdef __cplusplus
+}
+#endif
+
+#endif
