@@ -69,9 +69,8 @@
  *
  * These are beyond what a proof about the library can reach.
  *
- * - pass a length that is more than the bytes there are, or a null pointer with
- *   a length above 0 (with length 0 pass any pointer, best not null: an empty
- *   piece is a piece);
+ * - pass a null pointer, or a length that is more than the bytes there are (with
+ *   length 0 any pointer but null will do: an empty piece is a piece);
  * - let two buffers of one call overlap;
  * - put anything but 0 or 1 into a bool of the record;
  * - pass one record and area to two calls at the same time;

@@ -19,10 +19,7 @@ pairWith number value = record { number = number; value = value }
 unfoldable pub pairOf : List ℕ → Pair
 pairOf l = pairWith (at l 0) (at l 1)
 
--- "more needed; a message, with the length of the reply written; or closed, with the fault"
-abbrev pub more : ℕ
-more = 1
-
+-- "more needed; a message, with the length of the reply written; or closed, with the fault": kinds 1, 2 and 3
 abbrev pub aMessage : ℕ
 aMessage = 2
 
