@@ -1,14 +1,17 @@
 -- From what a call promises to what C is handed. Assumes nothing.
 use Prim.Native.Nat.{ℕ}
-use mathlib.Core.Path.{_≡_, refl, ap, _∙_}
+use mathlib.Core.Path.{_≡_, ap, ap₂, _∙_}
 use mathlib.Core.List.{List}
+use lib.ListN.{length}
 use Rattle.endpoint.specs.Numbers.{Outcome, outcome}
 use Rattle.endpoint.specs.declared.Record.{Record}
+use Rattle.reader.specs.Entry.{partOf, partStart}
 use Rattle.writer.specs.Numbers as writer
 use Rattle.writer.specs.declared.Written as answer
 use Rattle.host.specs.Numbers.{at, pairOf, deliveryOf, takingOf}
 use Rattle.host.specs.Answers.{clearedOf, openedOf, closedOf, tickedOf, deliveredOf, takenOf}
-use Rattle.host.specs.Messages.{writtenOf}
+use Rattle.host.specs.Messages.{partFrom, writtenOf}
+use Rattle.host.specs.declared.messages.Part.{Part}
 use Rattle.host.specs.declared.messages.Written.{Written}
 use Rattle.host.specs.declared.Cleared.{Cleared}
 use Rattle.host.specs.declared.numbers.Pair.{Pair}
@@ -39,6 +42,9 @@ deliveredWith s d =
 
 abbrev takenWith : Record → TakingNumbers → Taken
 takenWith s t = record { state = s; number = t .number; kind = t .kind; connection = t .connection; length = t .length }
+
+abbrev partWith : ℕ → ℕ → Part
+partWith start length = record { start = start; length = length }
 
 module _ (o : Outcome) (l : List ℕ) (s : Record) (a u : List ℕ) (e : outcome l s a u ≡ o) where
   pub area-told : a ≡ o .area
@@ -75,3 +81,7 @@ pub written-told : (o : writer.Outcome) (r : answer.Written) (buf : List ℕ) (w
     → (w ≡ writtenOf (o .answer)) × (buf ≡ o .buffer)
 written-told o r buf w e q =
     (q ∙ ap (λ (x : writer.Outcome). writtenOf (x .answer)) e, ap (λ (x : writer.Outcome). x .buffer) e)
+
+pub part-told : (s p : List ℕ) (i a : ℕ) → a ≡ partStart s i → p ≡ partOf s i → partWith a (length p) ≡ partFrom s i
+unfolding partFrom
+part-told s p i a q e = ap₂ partWith q (ap length e)

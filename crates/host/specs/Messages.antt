@@ -5,7 +5,7 @@ use mathlib.Core.Bool.{cond}
 use lib.ListN.{length}
 use lib.Dec.{eqb}
 use Rattle.frame.specs.Limits.{notification, response}
-use Rattle.reader.specs.Entry.{partOf, startOf}
+use Rattle.reader.specs.Entry.{partOf, partStart}
 use Rattle.host.specs.Numbers.{at}
 use Rattle.host.specs.declared.messages.Reading.{Reading}
 use Rattle.host.specs.declared.messages.Entry.{Entry}
@@ -91,7 +91,7 @@ entryFrom l =
 
 -- "hands back its parameters as a part of the caller's message": where it starts and how long it is
 unfoldable pub partFrom : List ℕ → ℕ → Part
-partFrom s i = record { start = startOf s i; length = length (partOf s i) }
+partFrom s i = record { start = partStart s i; length = length (partOf s i) }
 
 abbrev pub writtenWith : ℕ → ℕ → ℕ → Written
 writtenWith number fault length = record { number = number; fault = fault; length = length }

@@ -21,7 +21,7 @@ use Rattle.frame.proofs.Entries.{entry-at}
 use Rattle.frame.proofs.Sounds.{sound-at}
 use Rattle.fields.specs.Place.{entriesFrom, entryBytes, parametersOf}
 use Rattle.reader.specs.Read.{dataOf}
-use Rattle.reader.specs.Entry.{hasEntry, entryAt, partIn, partBy, partOf, startIn, startBy, startOf, PartStands}
+use Rattle.reader.specs.Entry.{hasEntry, entryAt, partIn, partBy, partOf, partStartIn, partStartBy, partStart, PartStands}
 use Rattle.reader.proofs.Sounds.{entry-low}
 
 -- what stands at the end of t
@@ -104,8 +104,8 @@ stands-entry s n i w h =
       within = omega (arith, l, low, length-take-le size u small, small, entries-fit s n i w .0, w .high);
     }
 
-stands-in : (s : List ℕ) (n i : ℕ) → SoundAt s n → Stands s (startIn s n i) (partIn s n i)
-unfolding startIn partIn
+stands-in : (s : List ℕ) (n i : ℕ) → SoundAt s n → Stands s (partStartIn s n i) (partIn s n i)
+unfolding partStartIn partIn
 stands-in s n i w = go (hasEntry (pduType s) (messageCount s) i) refl
   where
     a : ℕ
@@ -118,14 +118,14 @@ stands-in s n i w = go (hasEntry (pduType s) (messageCount s) i) refl
     go true h = stands-entry s n i w h
     go false h = stands-none s
 
-stands-by : (s : List ℕ) (i : ℕ) (d : Decision) → decide s ≡ d → Stands s (startBy d s i) (partBy d s i)
-unfolding startBy partBy
+stands-by : (s : List ℕ) (i : ℕ) (d : Decision) → decide s ≡ d → Stands s (partStartBy d s i) (partBy d s i)
+unfolding partStartBy partBy
 stands-by s i Undecided e = stands-none s
 stands-by s i (Faulty f n) e = stands-none s
 stands-by s i (Sound n) e = stands-in s n i (sound-at s n e)
 
-stands : (s : List ℕ) (i : ℕ) → Stands s (startOf s i) (partOf s i)
-unfolding startOf partOf
+stands : (s : List ℕ) (i : ℕ) → Stands s (partStart s i) (partOf s i)
+unfolding partStart partOf
 stands s i = stands-by s i (decide s) refl
 
 pub part-stands : PartStands

@@ -54,21 +54,21 @@ unfoldable pub partOf : List ℕ → ℕ → List ℕ
 partOf s i = partBy (decide s) s i
 
 -- where that part starts in the caller's bytes: the data from entry i on is the message's end, and the part stands behind the least entry
-unfoldable pub startIn : List ℕ → ℕ → ℕ → ℕ
-startIn s n i =
+unfoldable pub partStartIn : List ℕ → ℕ → ℕ → ℕ
+partStartIn s n i =
     cond (hasEntry (pduType s) (messageCount s) i)
     ((n - length (entriesFrom i (pduType s) (dataOf s n))) + leastEntry (pduType s))
     0
 
-unfoldable pub startBy : Decision → List ℕ → ℕ → ℕ
-startBy Undecided s i = 0
-startBy (Faulty f n) s i = 0
-startBy (Sound n) s i = startIn s n i
+unfoldable pub partStartBy : Decision → List ℕ → ℕ → ℕ
+partStartBy Undecided s i = 0
+partStartBy (Faulty f n) s i = 0
+partStartBy (Sound n) s i = partStartIn s n i
 
-unfoldable pub startOf : List ℕ → ℕ → ℕ
-startOf s i = startBy (decide s) s i
+unfoldable pub partStart : List ℕ → ℕ → ℕ
+partStart s i = partStartBy (decide s) s i
 
 -- "as a part of the caller's message": from its start, as long as it is, the caller's bytes are the part
 pub record PartStands : Type 0 where
-  pub there : (s : List ℕ) (i : ℕ) → take (length (partOf s i)) (drop (startOf s i) s) ≡ partOf s i
-  pub within : (s : List ℕ) (i : ℕ) → startOf s i + length (partOf s i) ≤ length s
+  pub there : (s : List ℕ) (i : ℕ) → take (length (partOf s i)) (drop (partStart s i) s) ≡ partOf s i
+  pub within : (s : List ℕ) (i : ℕ) → partStart s i + length (partOf s i) ≤ length s

@@ -14,7 +14,7 @@ ghost use Rattle.frame.specs.Sound.{SoundAt};
 ghost use Rattle.fields.specs.Place.{entriesFrom};
 ghost use Rattle.reader.specs.Numbers.{messageNumbers, readingNumbers, entryNumbers};
 ghost use Rattle.reader.specs.Read.{dataOf, messageOf, readOf};
-ghost use Rattle.reader.specs.Entry.{hasEntry, fieldsOf, entryAt, entryIn, entryOf, partIn, partOf, startIn, startOf, PartStands};
+ghost use Rattle.reader.specs.Entry.{hasEntry, fieldsOf, entryAt, entryIn, entryOf, partIn, partOf, partStartIn, partStart, PartStands};
 ghost use Rattle.reader.specs.Tell.{NumbersTell};
 ghost use Rattle.reader.specs.Examples.{ExamplesRead};
 
@@ -159,7 +159,7 @@ fn entries_at<'a>(s: &'a [u8], n: usize, index: usize) -> &'a [u8]
 
 fn start_in(s: &[u8], n: usize, index: usize) -> usize
     requires { ⌜ SoundAt (now s) n ⌝ }
-    ensures { λ r. ⌜ r ≡ startIn (now (s .entry)) n index ⌝ }
+    ensures { λ r. ⌜ r ≡ partStartIn (now (s .entry)) n index ⌝ }
 {
     if has_entry(s[7], octets::be16(s, 8), index) {
         let entries = entries_at(s, n, index);
@@ -170,7 +170,7 @@ fn start_in(s: &[u8], n: usize, index: usize) -> usize
 
 // Where entry index's part starts in s, for a caller that cannot be handed a slice: 0 where the entry is refused.
 pub fn part_start(s: &[u8], index: usize) -> usize
-    ensures { λ r. ⌜ r ≡ startOf (now (s .entry)) index ⌝ }
+    ensures { λ r. ⌜ r ≡ partStart (now (s .entry)) index ⌝ }
 {
     match frame::decide(s) {
         Decision::Undecided => 0,

@@ -3,7 +3,7 @@ use Rattle.frame.specs.declared.Decision.the-variants.{Undecided, Faulty, Sound
 use Rattle.frame.proofs.Sounds.{sound-at}
 use mathlib.Core.Path.{_≡_}
 use denote.Ref.{now}
-use Rattle.reader.specs.Entry.{startBy, startOf}
+use Rattle.reader.specs.Entry.{partStartBy, partStart}
 use borrow.Author.Needs.{needs}
 use Rattle.reader.proofs.part_start.Statement.{statement}
 use Rattle.reader.proofs.part_start.Tie as tie
@@ -24,19 +24,19 @@ start-in-requires : tie.Need-start-in-requires
 start-in-requires c κs = sound-at (now (c .before .before .before .before .before .args .s)) (c .before .n .given .0 .0) (cc)
 
 returns : tie.Need-returns
-unfolding startOf startBy
+unfolding partStart partStartBy
 returns c =
     let d : decide (now (c .before .before .before .before .args .s)) ≡ Undecided = cc in
     simp d
 
 returns-2 : tie.Need-returns-2
-unfolding startOf startBy
+unfolding partStart partStartBy
 returns-2 c =
     let d : decide (now (c .before .before .before .before .args .s)) ≡ Faulty (c .enum-told2 .given .0 .0) (c .enum-told2 .given .0 .1 .0) = cc in
     simp d
 
 returns-3 : tie.Need-returns-3
-unfolding startOf startBy
+unfolding partStart partStartBy
 returns-3 c =
     let d : decide (now (c .before .before .before .before .before .before .args .s)) ≡ Sound (c .before .before .n .given .0 .0) = cc in
     simp (d, c .start-in .ensures)

@@ -1,6 +1,6 @@
 use Rattle.frame.specs.Header.{pduType, messageCount}
 use Rattle.frame.proofs.Entries.{least-holds}
-use Rattle.reader.specs.Entry.{hasEntry, startIn}
+use Rattle.reader.specs.Entry.{hasEntry, partStartIn}
 use Rattle.reader.proofs.Starts.{entries-fit}
 use mathlib.Core.Path.{_≡_, ap}
 use lib.ListN.{length}
@@ -42,7 +42,7 @@ add-result c =
     record { fits = omega (arith, f .1, least-holds (pduType (now (a .s))) .1, c .least-entry .ensures) }
 
 returns : tie.Need-returns
-unfolding startIn
+unfolding partStartIn
 returns c =
     let a = c .before .before .before .before .before .before .before .before .args in
     let s = now (a .s) in
@@ -50,7 +50,7 @@ returns c =
     simp h (cc)
 
 returns-2 : tie.Need-returns-2
-unfolding startIn
+unfolding partStartIn
 returns-2 c =
     let a = c .before .before .before .before .before .args in
     let s = now (a .s) in

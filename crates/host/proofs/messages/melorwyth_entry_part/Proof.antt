@@ -1,4 +1,4 @@
-use Rattle.host.specs.Messages.{partFrom}
+use Rattle.host.proofs.Tellings.{part-told}
 use borrow.Author.Needs.{needs}
 use Rattle.host.proofs.messages.melorwyth_entry_part.Statement.{statement}
 use Rattle.host.proofs.messages.melorwyth_entry_part.Tie as tie
@@ -10,8 +10,7 @@ part-start-requires : tie.Need-part-start-requires
 part-start-requires c κs = search needs
 
 returns : tie.Need-returns
-unfolding partFrom
-returns c = cc
+returns c = part-told _ _ _ _ (c .part-start .ensures) (c .before .entry-part .ensures)
 
 pub melorwyth-entry-part-spec : {M : Type 1} → statement M
 melorwyth-entry-part-spec = tie.close (tie.spec entry-part-requires part-start-requires returns)

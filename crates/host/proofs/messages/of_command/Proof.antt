@@ -1,12 +1,12 @@
+use mathlib.Core.Path.{refl}
 use Rattle.reader.specs.Numbers.{commandNumbers}
 use Rattle.host.specs.Messages.{commandFrom, entryFrom}
-use borrow.Author.Needs.{needs}
 use Rattle.host.proofs.messages.of_command.Statement.{statement}
 use Rattle.host.proofs.messages.of_command.Tie as tie
 
 returns : tie.Need-returns
 unfolding commandNumbers commandFrom entryFrom
-returns c = cc
+returns c = refl
 
 pub of-command-spec : {M : Type 1} → statement M
 of-command-spec = tie.close (tie.spec returns)
