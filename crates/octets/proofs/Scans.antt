@@ -8,7 +8,7 @@ use native.Mathlib.Numerals.{add-one}
 use lib.Dec.{eqb}
 use lib.ListN.{length, take, getD, set, length-replicate, replicate-append-replicate}
 use lib.Seq.{take-suc, take-suc-set, take-all}
-use borrow.Author.Tests.{eqb-true}
+use borrow.Author.Tests.{eqb-true, eq-eqb, ne-eqb}
 use Rattle.laws.proofs.Conds.{and-left, and-right}
 use Rattle.octets.specs.Zeros.{zeros, allZero}
 
@@ -50,6 +50,17 @@ pub all-zero-append : (s t : List ℕ) → allZero (s ++ t) ≡ (allZero s && al
 unfolding allZero
 all-zero-append [] t = refl
 all-zero-append (x ∷ s) t = ap (λ (b : Bool). eqb x 0 && b) (all-zero-append s t) ∙ and-assoc (eqb x 0) (allZero s) (allZero t)
+
+-- the greater of two, told by its being 0
+pub greater-right : (a b : ℕ) → a < b → eqb b 0 ≡ (eqb a 0 && eqb b 0)
+greater-right a b h = rw (ne-eqb b 0 (omega arith)) (sym (and-false (eqb a 0)))
+
+pub greater-left : (a b : ℕ) → b ≤ a → eqb a 0 ≡ (eqb a 0 && eqb b 0)
+greater-left a b h = go (eqb a 0) refl
+  where
+    go : (t : Bool) → eqb a 0 ≡ t → t ≡ (t && eqb b 0)
+    go true e = let z : a ≡ 0 = eqb-true a 0 e in sym (eq-eqb b 0 (omega arith))
+    go false e = refl
 
 -- a scan, one byte more
 pub scan-more : (l : List ℕ) (i : ℕ) → i < length l → allZero (take (i + 1) l) ≡ (allZero (take i l) && eqb (getD l i 0) 0)

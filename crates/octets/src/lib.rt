@@ -83,21 +83,22 @@ pub fn clear(s: &mut [u8])
     }
 }
 
-fn both(ok: bool, b: u8) -> bool
-    ensures { λ r. ⌜ r ≡ (ok && eqb b 0) ⌝ }
+// The greater of two bytes: 0 where both are.
+fn greater(a: u8, b: u8) -> u8
+    ensures { λ r. ⌜ eqb r 0 ≡ (eqb a 0 && eqb b 0) ⌝ }
 {
-    if b == 0 { ok } else { false }
+    if a < b { b } else { a }
 }
 
-// Every byte is looked at: a loop that left early would not be vectorised.
+// Every byte is looked at: a loop that left early would not be vectorised. The greatest of all is 0 where each is.
 pub fn all_zero(s: &[u8]) -> bool
     ensures { λ r. ⌜ r ≡ allZero (now (s .entry)) ⌝ }
 {
-    let mut ok = true;
+    let mut greatest: u8 = 0;
     let mut i: usize = 0;
     while i < s.len() {
-        ok = both(ok, s[i]);
+        greatest = greater(greatest, s[i]);
         i += 1;
     }
-    ok
+    greatest == 0
 }

@@ -12,20 +12,20 @@ use Rattle.octets.proofs.all_zero.Statement.{statement}
 use Rattle.octets.proofs.all_zero.Tie as tie
 
 abbrev Inv-loop : tie.InvT-loop
-Inv-loop s ok₀ i₀ ok i = (i ≤ length s) × (ok ≡ allZero (take i s))
+Inv-loop s greatest₀ i₀ greatest i = (i ≤ length s) × (eqb greatest 0 ≡ allZero (take i s))
 
 abbrev μ-loop : tie.MeasureT-loop
-μ-loop s ok₀ i₀ ok i = length s - i
+μ-loop s greatest₀ i₀ greatest i = length s - i
 
 loop-holds : tie.Need-loop-holds Inv-loop μ-loop
 unfolding allZero
 loop-holds c = search needs
 
-shared-slice-read-both : tie.Need-shared-slice-read-both Inv-loop μ-loop
-shared-slice-read-both c = search needs
+shared-slice-read-greater : tie.Need-shared-slice-read-greater Inv-loop μ-loop
+shared-slice-read-greater c = search needs
 
-both-requires : tie.Need-both-requires Inv-loop μ-loop
-both-requires c κs = search needs
+greater-requires : tie.Need-greater-requires Inv-loop μ-loop
+greater-requires c κs = search needs
 
 add-i : tie.Need-add-i Inv-loop μ-loop
 add-i c = search needs
@@ -38,7 +38,7 @@ loop-again c =
     let s = c .before .before .before .before .before .args .s .now in
     let l = c .before .before .before .loop in (
       omega arith,
-      c .both .ensures ∙ ap (λ (t : Bool). t && eqb (getD s (l .i) 0) 0) (l .inv .1)
+      c .greater .ensures ∙ ap (λ (t : Bool). t && eqb (getD s (l .i) 0) 0) (l .inv .1)
           ∙ sym (scan-more s (l .i) (c .before .before .loop-test .taken)),
     )
 
@@ -52,8 +52,8 @@ all-zero-spec =
     Inv-loop
     μ-loop
     loop-holds
-    shared-slice-read-both
-    both-requires
+    shared-slice-read-greater
+    greater-requires
     add-i
     loop-less
     loop-again
