@@ -1,0 +1,68 @@
+//! `show`: the technician's question in one terminal, the amplifier's lines and the controllers' side by side.
+
+use demo::clock::Clock;
+use demo::desk::Desk;
+use demo::interrupt;
+use demo::script;
+use demo::session::Session;
+use std::io::{self, Write};
+use std::net::{Ipv4Addr, TcpListener};
+use std::process::ExitCode;
+use std::sync::atomic::Ordering;
+use std::thread;
+
+/// Standard output for one of two, whose lines are told apart by a name before each.
+#[derive(Debug)]
+struct Lines {
+    name: &'static str,
+    begun: Vec<u8>,
+}
+
+fn lines_of(name: &'static str) -> Lines {
+    let begun = Vec::new();
+    Lines { name, begun }
+}
+
+impl Write for Lines {
+    /// A line is printed when it is whole, so that the two never mix within one.
+    fn write(&mut self, bytes: &[u8]) -> io::Result<usize> {
+        self.begun.extend_from_slice(bytes);
+        while let Some(end) = self.begun.iter().position(|byte| *byte == b'\n') {
+            let line: Vec<u8> = self.begun.drain(..=end).collect();
+            let mut out = io::stdout().lock();
+            write!(out, "{:<12}", self.name)?;
+            out.write_all(&line)?;
+        }
+        Ok(bytes.len())
+    }
+
+    fn flush(&mut self) -> io::Result<()> {
+        io::stdout().flush()
+    }
+}
+
+fn main() -> ExitCode {
+    match run() {
+        Ok(()) => ExitCode::SUCCESS,
+        Err(error) => {
+            eprintln!("show: {error}");
+            ExitCode::FAILURE
+        }
+    }
+}
+
+fn run() -> io::Result<()> {
+    interrupt::watch();
+    let listener = TcpListener::bind((Ipv4Addr::LOCALHOST, 0))?;
+    let address = listener.local_addr()?;
+    let desk = Desk::new(listener, Clock::starting_at(0), lines_of("amplifier"))?;
+    let commands = script::parse("question").map_err(io::Error::other)?;
+    thread::scope(|both| {
+        let amplifier = both.spawn(|| desk.run(&interrupt::ENDING));
+        let asked = Session::new(address, lines_of("hall")).obey(commands);
+        interrupt::ENDING.store(true, Ordering::Relaxed);
+        let ended = amplifier.join();
+        asked?;
+        ended.map_err(|_| io::Error::other("the amplifier panicked"))?
+    })
+}
