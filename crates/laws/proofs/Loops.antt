@@ -2,7 +2,7 @@
 -- Assumes nothing.
 use Prim.Native.Nat.{ℕ, zero, suc, _+_, _-_, _*_, _^_, _<_, _≤_}
 use mathlib.Core.Path.{_≡_, refl, sym, ap, _∙_}
-use mathlib.Core.Bool.{Bool, true, false, cond}
+use mathlib.Core.Bool.{Bool, true, false, cond, _&&_}
 use mathlib.Core.List.{List, [], _∷_, _++_, map, append-nil}
 use native.Mathlib.Nat.{not-suc-le-zero, le-of-suc-le-suc, add-zero, pow-succ'}
 use native.Mathlib.Numerals.{add-one}
@@ -12,6 +12,7 @@ use lib.Seq.{drop-cons, take-all}
 use lib.Pow.{pow-pos}
 use Rattle.laws.specs.Lists.{all, allPairs, index, mask}
 use Rattle.laws.proofs.Conds.{and-left, and-right}
+use Rattle.laws.proofs.Tables.{getD-any}
 
 map-suc : {A : Type 0} (f : A → A) (d : A) (i : ℕ) (l : List A) → i < length l → set (map f (take i l) ++ drop i l) i (f (getD (map f (take i l) ++ drop i l) i d)) ≡ map f (take (suc i) l) ++ drop (suc i) l
 map-suc f d i [] h = absurd (not-suc-le-zero h)
@@ -95,30 +96,93 @@ testing-end {A} {p} {n} {t} {i} {l} m h =
     let k : length l ≤ i = omega arith in
     sym (m .is ∙ rw (drop-of-length-le l k))
 
--- the same for a test of each element with those after it
-pub record Pairing {A : Type 0} (r : A → A → Bool) (n : ℕ) (t : Bool) (i : ℕ) (l : List A) : Type 0 where
+and-true : (a : Bool) → (a && true) ≡ a
+and-true true = refl
+and-true false = refl
+
+and-group : (a b c : Bool) → (a && (b && c)) ≡ ((a && b) && c)
+and-group true b c = refl
+and-group false b c = refl
+
+and-swap : (a b c d : Bool) → ((a && b) && (c && d)) ≡ ((a && c) && (b && d))
+and-swap true true c d = refl
+and-swap true false true d = refl
+and-swap true false false d = refl
+and-swap false b c d = refl
+
+all-next : {A : Type 0} (p : A → Bool) (d : A) (j : ℕ) (l : List A) → j < length l → all p (take (suc j) l) ≡ (all p (take j l) && p (getD l j d))
+all-next p d j [] h = absurd (not-suc-le-zero h)
+all-next p d zero (x ∷ l) h = and-true (p x)
+all-next p d (suc j) (x ∷ l) h = ap (λ (b : Bool). p x && b) (all-next p d j l (le-of-suc-le-suc h)) ∙ and-group (p x) _ _
+
+pairs-next : {A : Type 0} (r : A → A → Bool) (d : A) (i : ℕ) (l : List A) → i < length l → allPairs r (take (suc i) l) ≡ (allPairs r (take i l) && all (λ (x : A). r x (getD l i d)) (take i l))
+pairs-next r d i [] h = absurd (not-suc-le-zero h)
+pairs-next r d zero (x ∷ l) h = refl
+pairs-next r d (suc i) (x ∷ l) h =
+    let k = le-of-suc-le-suc h in
+    rw (all-next (r x) d i l k, pairs-next r d i l k) (and-swap (all (r x) (take i l)) (r x (getD l i d)) _ _)
+
+-- a loop over l, of n elements, that tests each with those before it, from the last down: element i has still to be tested with j
+pub record Pairing {A : Type 0} (r : A → A → Bool) (n : ℕ) (t : Bool) (i j : ℕ) (l : List A) : Type 0 where
   pub size : length l ≡ n
-  pub is : t ≡ allPairs r (drop i l)
+  pub low : i < n
+  pub before : j ≤ i
+  pub is : (d : A) → t ≡ (allPairs r (take i l) && all (λ (x : A). r x (getD l i d)) (take j l))
 
-pub pairing-none : {A : Type 0} {r : A → A → Bool} {n : ℕ} {l : List A} → length l ≡ n → Pairing r n (allPairs r l) 0 l
-pairing-none e = record { size = e; is = refl }
-
-pub pairing-more : {A : Type 0} {r : A → A → Bool} {n : ℕ} {t : Bool} {i : ℕ} {l : List A} {b : Bool} (d : A) → Pairing r n t i l → b ≡ all (r (getD l i d)) (drop (i + 1) l) → b ≡ true → i < n → Pairing r n t (i + 1) l
-pairing-more {A} {r} {n} {t} {i} {l} {b} d m q u h =
+pub pairing-none : {A : Type 0} {r : A → A → Bool} {n i : ℕ} {l : List A} → length l ≡ n → n ≡ i + 1 → Pairing r n (allPairs r l) i i l
+pairing-none {A} {r} {n} {i} {l} e q =
     let k : i < length l = omega arith in
-    let e : b ≡ all (r (getD l i d)) (drop (suc i) l) = rw add-one at q in
-    record { size = m .size; is = m .is ∙ rw (drop-cons l i d k, ← e, u, add-one) }
+    let w : length l ≤ suc i = omega arith in
+    record {
+      size = e;
+      low = omega arith;
+      before = omega arith;
+      is = λ d. ap (allPairs r) (sym (take-all (suc i) l w)) ∙ pairs-next r d i l k;
+    }
 
-pub pairing-not : {A : Type 0} {r : A → A → Bool} {n : ℕ} {t : Bool} {i : ℕ} {l : List A} {b : Bool} (d : A) → Pairing r n t i l → b ≡ all (r (getD l i d)) (drop (i + 1) l) → b ≡ false → i < n → false ≡ t
-pairing-not {A} {r} {n} {t} {i} {l} {b} d m q u h =
-    let k : i < length l = omega arith in
-    let e : b ≡ all (r (getD l i d)) (drop (suc i) l) = rw add-one at q in
-    sym (m .is ∙ rw (drop-cons l i d k, ← e, u))
+module _ {A : Type 0} {r : A → A → Bool} {n : ℕ} {t : Bool} {i j : ℕ} {l : List A} (d : A) (m : Pairing r n t i j l) where
+  module _ {b : Bool} (q : b ≡ r (getD l (j - 1) d) (getD l i d)) (h : 0 < j) where
+    part : (e : A) → all (λ (x : A). r x (getD l i e)) (take j l) ≡ (all (λ (x : A). r x (getD l i e)) (take (j - 1) l) && b)
+    part e =
+        let k : j - 1 < length l = omega (arith, m .size, m .low, m .before) in
+        let up : suc (j - 1) ≡ j = omega arith in
+        let at : i < length l = omega (arith, m .size, m .low) in
+        rw (q, getD-any l i d e at) (ap (λ (u : ℕ). all (λ (x : A). r x (getD l i e)) (take u l)) (sym up) ∙ all-next (λ (x : A). r x (getD l i e)) d (j - 1) l k)
 
-pub pairing-end : {A : Type 0} {r : A → A → Bool} {n : ℕ} {t : Bool} {i : ℕ} {l : List A} → Pairing r n t i l → n ≤ i → true ≡ t
-pairing-end {A} {r} {n} {t} {i} {l} m h =
-    let k : length l ≤ i = omega arith in
-    sym (m .is ∙ rw (drop-of-length-le l k))
+    pub pairing-more : b ≡ true → Pairing r n t i (j - 1) l
+    pairing-more u =
+        record {
+          size = m .size;
+          low = m .low;
+          before = omega (arith, m .before);
+          is = λ e. m .is e ∙ rw (part e, u, and-true);
+        }
+
+    pub pairing-not : b ≡ false → false ≡ t
+    pairing-not u = sym (m .is d ∙ rw (part d, u, none (all (λ (x : A). r x (getD l i d)) (take (j - 1) l)), none (allPairs r (take i l))))
+      where
+        none : (a : Bool) → (a && false) ≡ false
+        none true = refl
+        none false = refl
+
+  -- element i has passed
+  pub pairing-next : all (λ (x : A). r x (getD l i d)) (take j l) ≡ true → 0 < i → Pairing r n t (i - 1) (i - 1) l
+  pairing-next q h =
+      let k : i - 1 < length l = omega (arith, m .size, m .low) in
+      let up : suc (i - 1) ≡ i = omega arith in
+      record {
+        size = m .size;
+        low = omega (arith, m .low);
+        before = omega arith;
+        is = λ e. m .is d ∙ rw (q, and-true) (ap (λ (u : ℕ). allPairs r (take u l)) (sym up) ∙ pairs-next r e (i - 1) l k);
+      }
+
+pub pairing-end : {A : Type 0} {r : A → A → Bool} {n : ℕ} {t : Bool} {i j : ℕ} {l : List A} → Pairing r n t i j l → i ≤ 0 → true ≡ t
+pairing-end {l = []} m h = absurd (omega (arith, m .size, m .low))
+pairing-end {i = i} {j = j} {l = x ∷ l} m h =
+    let z : i ≡ 0 = omega arith in
+    let y : j ≡ 0 = omega (arith, m .before) in
+    sym (m .is x ∙ rw (z, y))
 
 pub all-at : {A : Type 0} (p : A → Bool) (l : List A) (i : ℕ) (d : A) → all p l ≡ true → i < length l → p (getD l i d) ≡ true
 all-at p [] i d e h = absurd (not-suc-le-zero h)

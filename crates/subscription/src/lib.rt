@@ -2,7 +2,6 @@
 use connection::Connection;
 ghost use mathlib.Core.Path.{_≡_};
 ghost use mathlib.Core.List.{map};
-ghost use lib.ListN.{drop};
 ghost use Rattle.laws.specs.Lists.{all, allPairs};
 ghost use Rattle.subscription.specs.State.{isMute, isTwin, twinAt, lowestUnused, lowestWaiting, markedOf, toldOf, sweptOf};
 ghost use Rattle.subscription.specs.Rules.{isFree, isSound, entryObeys, apart};
@@ -139,31 +138,24 @@ pub fn all_obey(entries: [Subscription; 32], connections: [Connection; 8]) -> bo
     true
 }
 
-// No entry from place k on is s's twin.
-fn apart_from(entries: [Subscription; 32], s: Subscription, k: usize) -> bool
-    ensures { λ r. ⌜ r ≡ all (apart s) (drop k entries) ⌝ }
-{
-    let mut j = k;
-    while j < ENTRIES {
-        let t = entries[j];
-        if !s.is_apart(t) {
-            return false;
-        }
-        j += 1;
-    }
-    true
-}
-
+// From the last entry down, each with those before it: entries are used from the lowest on, and an unused one is nobody's twin.
 pub fn all_apart(entries: [Subscription; 32]) -> bool
     ensures { λ r. ⌜ r ≡ allPairs apart entries ⌝ }
 {
-    let mut i: usize = 0;
-    while i < ENTRIES {
+    let mut i: usize = ENTRIES - 1;
+    let mut j: usize = i;
+    while 0 < i {
         let s = entries[i];
-        if !apart_from(entries, s, i + 1) {
-            return false;
+        if s.used & (0 < j) {
+            j -= 1;
+            let t = entries[j];
+            if !t.is_apart(s) {
+                return false;
+            }
+        } else {
+            i -= 1;
+            j = i;
         }
-        i += 1;
     }
     true
 }
