@@ -1,20 +1,21 @@
--- An entry marked, swept or compared, and its tests. Assumes nothing.
-use Prim.Native.Nat.{ℕ, _+_, _-_, _*_, _<_}
-use mathlib.Core.Path.{_≡_, refl}
-use mathlib.Core.Bool.{Bool, true, false, not, _&&_}
+-- An entry tested, marked, swept or compared. Assumes nothing.
+use Prim.Native.Nat.{ℕ, _+_, _-_, _*_, _<_, _≤_}
+use mathlib.Core.Path.{_≡_, refl, sym, ap, _∙_}
+use mathlib.Core.Bool.{Bool, true, false, not, _&&_, _||_}
 use mathlib.Core.List.{List}
 use native.Mathlib.Omega.{arith}
-use borrow.Author.Tests.{ltb-true, ltb-false}
+use borrow.Author.Tests.{ltb-true, ltb-false, ne-eqb}
 use lib.Dec.{eqb, ltb}
-use lib.ListN.{take, getD}
+use lib.ListN.{length, take, getD}
 use Rattle.laws.specs.Lists.{all}
 use Rattle.laws.proofs.Conds.{and-right}
 use Rattle.laws.proofs.Tables.{all-true}
-use Rattle.laws.proofs.Loops.{Pairing, pairing-next}
+use Rattle.laws.proofs.Loops.{Testing, testing-more, testing-not, Pairing, pairing-next}
+use Rattle.connection.proofs.Times.{live-out, live-in}
 use Rattle.connection.specs.State.{liveAt}
 use Rattle.connection.specs.declared.Connection.{Connection}
 use Rattle.subscription.specs.State.{free, isUnused, isWaiting, isTwin, withWaiting, markedOf, sweptOf}
-use Rattle.subscription.specs.Rules.{apart}
+use Rattle.subscription.specs.Rules.{isFree, soundBy, isSound, entryObeys, apart}
 use Rattle.subscription.specs.declared.Subscription.{Subscription}
 
 pub unused-is : (t : Subscription) (b : Bool) → not (t .used) ≡ b → isUnused t ≡ b
@@ -24,6 +25,44 @@ unused-is t b e = e
 pub waiting-is : (t : Subscription) (b : Bool) → t .waiting ≡ b → isWaiting t ≡ b
 unfolding isWaiting
 waiting-is t b e = e
+
+module _ (s : Subscription) (live b : Bool) where
+  pub used-obeys : s .used ≡ true → b ≡ soundBy live s → b ≡ (isFree s || soundBy live s)
+  unfolding isFree
+  used-obeys u q = rw u (rw u at q)
+
+  pub unused-obeys : s .used ≡ false → b ≡ isFree s → b ≡ (isFree s || soundBy live s)
+  unused-obeys u q = rw (← q, u) (sym (or-false b))
+    where
+      or-false : (a : Bool) → (a || false) ≡ a
+      or-false true = refl
+      or-false false = refl
+
+-- no connection has its number
+past-obeys : (cs : List Connection) (s : Subscription) → length cs ≡ 8 → 8 ≤ s .connection → false ≡ entryObeys cs s
+unfolding entryObeys isSound isFree
+past-obeys cs s e h = go (s .used) refl (s .waiting) refl
+  where
+    go : (u : Bool) → s .used ≡ u → (w : Bool) → s .waiting ≡ w → false ≡ entryObeys cs s
+    go true u w v = rw (u, ← live-out cs (s .connection) e h)
+    go false u true v = rw (u, v)
+    go false u false v = rw (u, v, ne-eqb (s .connection) 0 (λ z. omega arith))
+
+-- the loop over the entries, at entry i
+module _ (cs : List Connection) {n : ℕ} {t : Bool} {i : ℕ} {l : List Subscription} (d : Subscription) (m : Testing (entryObeys cs) n t i l) (k : i < n) where
+  pub obeys-past : length cs ≡ 8 → 8 ≤ getD l i d .connection → false ≡ t
+  obeys-past e h = testing-not d m (past-obeys cs (getD l i d) e h) refl k
+
+  module _ (e : Connection) (b : Bool) (q : b ≡ (isFree (getD l i d) || soundBy (getD cs (getD l i d .connection) e .live) (getD l i d))) (h : getD l i d .connection < length cs) where
+    told : b ≡ entryObeys cs (getD l i d)
+    unfolding entryObeys isSound
+    told = let s = getD l i d in q ∙ ap (λ (live : Bool). isFree s || soundBy live s) (live-in cs (s .connection) e h)
+
+    pub obeys-not : b ≡ false → false ≡ t
+    obeys-not u = testing-not d m told u k
+
+    pub obeys-more : b ≡ true → Testing (entryObeys cs) n t (i + 1) l
+    obeys-more u = testing-more d m told u k
 
 module _ (emitter : ℕ) (s : Subscription) where
   pub marked-now : s .used && eqb (s .emitter) emitter ≡ true → withWaiting s true ≡ markedOf emitter s

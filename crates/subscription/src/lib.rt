@@ -1,10 +1,11 @@
 // A subscription entry: who is told of which mute's changes.
 use connection::Connection;
 ghost use mathlib.Core.Path.{_≡_};
+ghost use mathlib.Core.Bool.{_||_};
 ghost use mathlib.Core.List.{map};
 ghost use Rattle.laws.specs.Lists.{all, allPairs};
 ghost use Rattle.subscription.specs.State.{isMute, isTwin, twinAt, lowestUnused, lowestWaiting, markedOf, toldOf, sweptOf};
-ghost use Rattle.subscription.specs.Rules.{isFree, isSound, entryObeys, apart};
+ghost use Rattle.subscription.specs.Rules.{isFree, soundBy, entryObeys, apart};
 ghost use Rattle.subscription.specs.Kept.{EntriesKept};
 
 pub const ENTRIES: usize = 32;
@@ -60,20 +61,21 @@ impl Subscription {
             & (self.context == 0)
     }
 
-    fn is_sound(self, connections: [Connection; 8]) -> bool
-        ensures { λ r. ⌜ r ≡ isSound connections self ⌝ }
+    fn is_sound(self, live: bool) -> bool
+        ensures { λ r. ⌜ r ≡ soundBy live self ⌝ }
     {
-        let live = connection::live_at(connections, self.connection);
         let mute = is_mute(self.emitter);
         self.used & live & mute & (self.event == CHANGE_EVENT)
     }
 
-    pub fn obeys(self, connections: [Connection; 8]) -> bool
-        ensures { λ r. ⌜ r ≡ entryObeys connections self ⌝ }
+    // `live` is whether its connection is open.
+    fn obeys(self, live: bool) -> bool
+        ensures { λ r. ⌜ r ≡ (isFree self || soundBy live self) ⌝ }
     {
-        let unused = self.is_free();
-        let sound = self.is_sound(connections);
-        unused | sound
+        if self.used {
+            return self.is_sound(live);
+        }
+        self.is_free()
     }
 
     // The same subscription, whatever its context.
@@ -130,7 +132,12 @@ pub fn all_obey(entries: [Subscription; 32], connections: [Connection; 8]) -> bo
     let mut i: usize = 0;
     while i < ENTRIES {
         let s = entries[i];
-        if !s.obeys(connections) {
+        let at = s.connection as usize;
+        if at >= connection::CONNECTIONS {
+            return false;
+        }
+        let c = connections[at];
+        if !s.obeys(c.live) {
             return false;
         }
         i += 1;
