@@ -1,6 +1,7 @@
 // The holders of the mutes' locks: 0 where none holds it, else connection + 1.
 use connection::Connection;
 ghost use mathlib.Core.Path.{_≡_};
+ghost use mathlib.Core.Bool.{cond};
 ghost use mathlib.Core.List.{map};
 ghost use Rattle.laws.specs.Lists.{all};
 ghost use Rattle.holders.specs.Holders.{ownerOf, isOther, holderObeys, sweptHolder};
@@ -26,23 +27,11 @@ pub fn is_other(holder: u8, n: u8) -> bool
     !(holder == 0) & !(holder == own)
 }
 
-fn obeys(holder: u8, connections: [Connection; 8]) -> bool
-    ensures { λ r. ⌜ r ≡ holderObeys connections holder ⌝ }
+// `live` is whether its connection is open.
+fn swept(holder: u8, live: bool) -> u8
+    ensures { λ r. ⌜ r ≡ cond live holder 0 ⌝ }
 {
-    if holder == 0 {
-        return true;
-    }
-    connection::live_at(connections, holder - 1)
-}
-
-fn swept(holder: u8, connections: [Connection; 8]) -> u8
-    ensures { λ r. ⌜ r ≡ sweptHolder connections holder ⌝ }
-{
-    if obeys(holder, connections) {
-        holder
-    } else {
-        0
-    }
+    if live { holder } else { 0 }
 }
 
 pub fn all_obey(holders: [u8; 8], connections: [Connection; 8]) -> bool
@@ -51,10 +40,19 @@ pub fn all_obey(holders: [u8; 8], connections: [Connection; 8]) -> bool
     let mut i: usize = 0;
     while i < HOLDERS {
         let h = holders[i];
-        if !obeys(h, connections) {
-            return false;
+        if h == 0 {
+            i += 1;
+        } else {
+            let at = h as usize - 1;
+            if at >= connection::CONNECTIONS {
+                return false;
+            }
+            let c = connections[at];
+            if !c.live {
+                return false;
+            }
+            i += 1;
         }
-        i += 1;
     }
     true
 }
@@ -65,9 +63,16 @@ pub fn all_swept(holders: [u8; 8], connections: [Connection; 8]) -> [u8; 8]
     let mut out = holders;
     let mut i: usize = 0;
     while i < HOLDERS {
-        let h = out[i];
-        out[i] = swept(h, connections);
-        i += 1;
+        let h = holders[i];
+        let at = h as usize;
+        if (0 < at) & (at <= connection::CONNECTIONS) {
+            let c = connections[at - 1];
+            out[i] = swept(h, c.live);
+            i += 1;
+        } else {
+            out[i] = 0;
+            i += 1;
+        }
     }
     out
 }

@@ -1,16 +1,11 @@
-use Rattle.holders.proofs.Holds.{held-kept, held-gone}
-use borrow.Author.Needs.{needs}
 use Rattle.holders.proofs.swept.Statement.{statement}
 use Rattle.holders.proofs.swept.Tie as tie
 
-obeys-requires : tie.Need-obeys-requires
-obeys-requires c κs = search needs
-
 returns : tie.Need-returns
-returns c = search held-kept
+returns c = cc
 
 returns-2 : tie.Need-returns-2
-returns-2 c = search held-gone
+returns-2 c = cc
 
 pub swept-spec : {M : Type 1} → statement M
-swept-spec = tie.close (tie.spec obeys-requires returns returns-2)
+swept-spec = tie.close (tie.spec returns returns-2)
