@@ -6,15 +6,14 @@ use mathlib.Core.List.{List}
 use native.Mathlib.Omega.{arith}
 use borrow.Author.Tests.{ltb-true, ltb-false, ne-eqb}
 use lib.Dec.{eqb, ltb}
-use lib.ListN.{length, take, getD}
+use lib.ListN.{length, take, set, getD}
 use Rattle.laws.specs.Lists.{all}
 use Rattle.laws.proofs.Conds.{and-right}
 use Rattle.laws.proofs.Tables.{all-true}
-use Rattle.laws.proofs.Loops.{Testing, testing-more, testing-not, Pairing, pairing-next}
+use Rattle.laws.proofs.Loops.{Testing, testing-more, testing-not, Mapping, mapping-from, Pairing, pairing-next}
 use Rattle.connection.proofs.Times.{live-out, live-in}
-use Rattle.connection.specs.State.{liveAt}
 use Rattle.connection.specs.declared.Connection.{Connection}
-use Rattle.subscription.specs.State.{free, isUnused, isWaiting, isTwin, withWaiting, markedOf, sweptOf}
+use Rattle.subscription.specs.State.{free, isUnused, isWaiting, isTwin, withWaiting, markedOf, sweptBy, sweptOf}
 use Rattle.subscription.specs.Rules.{isFree, soundBy, isSound, entryObeys, apart}
 use Rattle.subscription.specs.declared.Subscription.{Subscription}
 
@@ -73,14 +72,26 @@ module _ (emitter : ℕ) (s : Subscription) where
   unfolding markedOf
   marked-not e = rw e
 
-module _ (cs : List Connection) (s : Subscription) (l : Bool) (q : l ≡ liveAt cs (s .connection)) where
-  pub swept-gone : s .used && not l ≡ true → free ≡ sweptOf cs s
-  unfolding sweptOf
-  swept-gone t = rw (← q, t)
+module _ (s : Subscription) (live : Bool) where
+  pub swept-gone : s .used && not live ≡ true → free ≡ sweptBy live s
+  swept-gone t = rw t
 
-  pub swept-kept : s .used && not l ≡ false → s ≡ sweptOf cs s
+  pub swept-kept : s .used && not live ≡ false → s ≡ sweptBy live s
+  swept-kept t = rw t
+
+-- the loop that sweeps the entries, at entry i
+module _ (cs : List Connection) {n i : ℕ} {l o : List Subscription} (d : Subscription) (m : Mapping (sweptOf cs) n i l o) (k : i < n) (v : Subscription) where
+  pub sweeps-in : (e : Connection) → v ≡ sweptBy (getD cs (getD l i d .connection) e .live) (getD l i d) → getD l i d .connection < length cs → Mapping (sweptOf cs) n (i + 1) l (set o i v)
   unfolding sweptOf
-  swept-kept t = rw (← q, t)
+  sweeps-in e q h =
+      let s = getD l i d in
+      mapping-from d m (q ∙ ap (λ (live : Bool). sweptBy live s) (live-in cs (s .connection) e h)) k
+
+  pub sweeps-past : v ≡ sweptBy false (getD l i d) → length cs ≡ 8 → 8 ≤ getD l i d .connection → Mapping (sweptOf cs) n (i + 1) l (set o i v)
+  unfolding sweptOf
+  sweeps-past q e h =
+      let s = getD l i d in
+      mapping-from d m (q ∙ ap (λ (live : Bool). sweptBy live s) (live-out cs (s .connection) e h)) k
 
 -- ---- entries told apart
 apart-unused : (s x : Subscription) → s .used ≡ false → apart x s ≡ true

@@ -64,6 +64,10 @@ markedOf emitter s = cond (s .used && eqb (s .emitter) emitter) (withWaiting s t
 unfoldable pub toldOf : Subscription → Subscription
 toldOf s = withWaiting s false
 
+-- an entry swept, where its connection is open or not
+abbrev pub sweptBy : Bool → Subscription → Subscription
+sweptBy live s = cond (s .used && not live) free s
+
 -- a sweep frees whatever belongs to a connection that is not open
 unfoldable pub sweptOf : List Connection → Subscription → Subscription
-sweptOf cs s = cond (s .used && not (liveAt cs (s .connection))) free s
+sweptOf cs s = sweptBy (liveAt cs (s .connection)) s

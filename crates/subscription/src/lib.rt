@@ -4,7 +4,7 @@ ghost use mathlib.Core.Path.{_≡_};
 ghost use mathlib.Core.Bool.{_||_};
 ghost use mathlib.Core.List.{map};
 ghost use Rattle.laws.specs.Lists.{all, allPairs};
-ghost use Rattle.subscription.specs.State.{isMute, isTwin, twinAt, lowestUnused, lowestWaiting, markedOf, toldOf, sweptOf};
+ghost use Rattle.subscription.specs.State.{isMute, isTwin, twinAt, lowestUnused, lowestWaiting, markedOf, toldOf, sweptBy, sweptOf};
 ghost use Rattle.subscription.specs.Rules.{isFree, soundBy, entryObeys, apart};
 ghost use Rattle.subscription.specs.Kept.{EntriesKept};
 
@@ -115,10 +115,10 @@ impl Subscription {
         self
     }
 
-    pub fn swept(self, connections: [Connection; 8]) -> Subscription
-        ensures { λ r. ⌜ r ≡ sweptOf connections self ⌝ }
+    // `live` is whether its connection is open.
+    fn swept(self, live: bool) -> Subscription
+        ensures { λ r. ⌜ r ≡ sweptBy live self ⌝ }
     {
-        let live = connection::live_at(connections, self.connection);
         if self.used & !live {
             return Subscription::FREE;
         }
@@ -231,9 +231,16 @@ pub fn all_swept(entries: [Subscription; 32], connections: [Connection; 8]) -> [
     let mut out = entries;
     let mut i: usize = 0;
     while i < ENTRIES {
-        let s = out[i];
-        out[i] = s.swept(connections);
-        i += 1;
+        let s = entries[i];
+        let at = s.connection as usize;
+        if at < connection::CONNECTIONS {
+            let c = connections[at];
+            out[i] = s.swept(c.live);
+            i += 1;
+        } else {
+            out[i] = s.swept(false);
+            i += 1;
+        }
     }
     out
 }
