@@ -1,18 +1,18 @@
 -- Arguments' counts and lengths, and a mute's place. Assumes nothing.
 use Prim.Native.Nat.{ℕ, _-_, _<_, _≤_}
-use mathlib.Core.Path.{_≡_, refl}
+use mathlib.Core.Path.{_≡_, refl, sym, ap, _∙_}
 use mathlib.Core.Bool.{Bool, true, false, not, _&&_, _||_}
 use mathlib.Core.List.{List, [], _∷_}
 use native.Mathlib.Omega.{arith}
 use borrow.Author.Tests.{leb-true, eq-eqb, ne-eqb, eqb-true, not-false}
 use lib.Dec.{leb, eqb}
 use lib.ListN.{length, getD}
-use Rattle.laws.proofs.Conds.{and-left, and-right}
+use Rattle.laws.proofs.Conds.{cond-right, and-left, and-right}
 use Rattle.laws.proofs.Tables.{or-neither}
 use Rattle.subscription.specs.State.{isMute}
-use Rattle.objects.specs.Methods.{placeOf}
+use Rattle.objects.specs.Methods.{placeOf, isObject, hasMethod}
 use Rattle.objects.specs.Answers.{classOf, identificationOf, toldOf}
-use Rattle.objects.specs.Tests.{countOf, lengthOf, isPairBad, isMalformed}
+use Rattle.objects.specs.Tests.{isForbidden, countOf, lengthOf, isPairBad, isMalformed, firstStatus, Allowed}
 
 -- ---- a mute
 pub record MuteAt (target : ℕ) : Type 0 where
@@ -62,6 +62,49 @@ formed-are m count part h =
     let e = or-neither (not (eqb count (countOf m)) || not (eqb (length part) (lengthOf m))) (isPairBad m part) h in
     let f = or-neither (not (eqb count (countOf m))) (not (eqb (length part) (lengthOf m))) (e .0) in
     record { number = eqb-true _ _ (not-false _ (f .0)); size = eqb-true _ _ (not-false _ (f .1)) }
+
+-- ---- the first that applies of 5, 11, 8, 4
+module _ (t m count : ℕ) (part : List ℕ) (b : Bool) (q : b ≡ isObject t) where
+  pub first-object : not b ≡ true → 5 ≡ firstStatus t m count part
+  unfolding firstStatus
+  first-object x = rw (← q, x)
+
+  module _ (x : not b ≡ false) (g : Bool) (p : g ≡ hasMethod t m) where
+    pub first-method : not g ≡ true → 11 ≡ firstStatus t m count part
+    unfolding firstStatus
+    first-method y = rw (← q, x, ← p, y)
+
+    module _ (y : not g ≡ false) (f : Bool) (r : f ≡ isForbidden t m) where
+      pub first-forbidden : f ≡ true → 8 ≡ firstStatus t m count part
+      unfolding firstStatus
+      first-forbidden z = rw (← q, x, ← p, y, ← r, z)
+
+      module _ (z : f ≡ false) (l : Bool) (s : l ≡ isMalformed m count part) where
+        pub first-malformed : l ≡ true → 4 ≡ firstStatus t m count part
+        unfolding firstStatus
+        first-malformed w = rw (← q, x, ← p, y, ← r, z, ← s, w)
+
+        pub first-none : l ≡ false → 0 ≡ firstStatus t m count part
+        unfolding firstStatus
+        first-none w = rw (← q, x, ← p, y, ← r, z, ← s, w)
+
+-- none of them applies
+pub first-allowed : (t m count : ℕ) (part : List ℕ) → firstStatus t m count part ≡ 0 → Allowed t m part × (count ≡ countOf m)
+unfolding firstStatus
+first-allowed t m count part e =
+    let o = cond-right (not (isObject t)) 5 _ 0 e (λ k. omega arith) in
+    let h = cond-right (not (hasMethod t m)) 11 _ 0 (o .1) (λ k. omega arith) in
+    let f = cond-right (isForbidden t m) 8 _ 0 (h .1) (λ k. omega arith) in
+    let l = cond-right (isMalformed m count part) 4 0 0 (f .1) (λ k. omega arith) in
+    let c = formed-are m count part (l .0) .number in (
+      record {
+        object = not-false (isObject t) (o .0);
+        method = not-false (hasMethod t m) (h .0);
+        allowed = f .0;
+        formed = ap (λ (j : ℕ). isMalformed m j part) (sym c) ∙ l .0;
+      },
+      c,
+    )
 
 -- ---- class identification
 module _ (target : ℕ) (b : Bool) (q : b ≡ isMute target) where

@@ -79,6 +79,15 @@ isMuteValue v = eqb v muted || eqb v unmuted
 unfoldable pub isValueBad : ℕ → List ℕ → Bool
 isValueBad m part = (eqb m addMethod && not (eqb (getD part 20 0) 1)) || (eqb m setMethod && not (isMuteValue (getD part 0 0)))
 
+-- the first that applies of those that need no device; 0 where none does
+unfoldable pub firstStatus : ℕ → ℕ → ℕ → List ℕ → ℕ
+firstStatus target m count part =
+    cond (not (isObject target)) 5
+    (cond (not (hasMethod target m)) 11
+    (cond (isForbidden target m) 8
+    (cond (isMalformed m count part) 4
+    0)))
+
 -- a command that none of 5, 11, 8, 4 stops
 pub record Allowed (target m : ℕ) (part : List ℕ) : Type 0 where
   pub object : isObject target ≡ true

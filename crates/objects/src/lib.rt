@@ -8,7 +8,7 @@ ghost use lib.ListN.{length};
 ghost use Rattle.laws.specs.Lists.{all};
 ghost use Rattle.subscription.specs.State.{isMute};
 ghost use Rattle.objects.specs.Methods.{MethodsApart, methodNumber, placeOf, isManager, isObject, isTelling, isLocking, hasMethod};
-ghost use Rattle.objects.specs.Tests.{isForbidden, countOf, lengthOf, isMalformed, entryOf, withContext, isStrange, isMuteValue};
+ghost use Rattle.objects.specs.Tests.{isForbidden, countOf, lengthOf, isMalformed, firstStatus, entryOf, withContext, isStrange, isMuteValue};
 ghost use Rattle.objects.specs.Answers.{classOf, identificationOf, failedOf, toldOf};
 
 pub const MUTES: usize = 8;
@@ -171,6 +171,25 @@ pub fn is_malformed(m: u32, count: u8, part: &[u8]) -> bool
         return false;
     }
     !((part[21] == 0) & (part[22] == 0))
+}
+
+// The first of the statuses 5, 11, 8 and 4 that applies, or 0: what is known before the device is looked at.
+pub fn first_status(target: u32, m: u32, count: u8, part: &[u8]) -> u8
+    ensures { λ r. ⌜ r ≡ firstStatus target m count (now (part .entry)) ⌝ }
+{
+    if !is_object(target) {
+        return NO_OBJECT;
+    }
+    if !has_method(target, m) {
+        return NO_METHOD;
+    }
+    if is_forbidden(target, m) {
+        return FORBIDDEN;
+    }
+    if is_malformed(m, count, part) {
+        return MALFORMED;
+    }
+    0
 }
 
 // The arguments of add and remove; remove has no context.
