@@ -32,7 +32,7 @@ unfolding runOf ranBy
 ran-done d n t m count part e = rw e
 
 -- ---- a mute
-pub mute-is : (at : ℕ) → at < 8 → isMute (4097 + at) ≡ true
+mute-is : (at : ℕ) → at < 8 → isMute (4097 + at) ≡ true
 unfolding isMute
 mute-is at h = rw (le-leb 4097 (4097 + at) (omega arith), le-leb (4097 + at) 4104 (omega arith))
 

@@ -1,25 +1,24 @@
 -- Which command it is, and what its arguments are. Assumes nothing.
 use Prim.Native.Nat.{ℕ, _+_, _-_, _<_}
 use mathlib.Core.Path.{_≡_, refl, sym, ap, _∙_}
-use mathlib.Core.Bool.{Bool, true, false, not, _&&_, and-true, and-false, or-false}
+use mathlib.Core.Bool.{Bool, true, false, cond, not, _&&_, _||_, and-true, or-false}
 use mathlib.Core.List.{List, [], _∷_}
 use native.Mathlib.Omega.{arith}
-use borrow.Author.Tests.{ne-eqb, eqb-true, not-false}
+use borrow.Author.Tests.{ne-eqb, eqb-true}
 use lib.Dec.{eqb}
 use lib.ListN.{length, getD}
-use Rattle.laws.proofs.Conds.{and-left, and-right}
 use Rattle.laws.proofs.Parts.{nil-of}
 use Rattle.laws.proofs.Tables.{or-neither}
 use Rattle.subscription.specs.State.{isMute}
 use Rattle.objects.specs.Methods.{classMethod, lockableMethod, lockMethod, unlockMethod, getMethod, setMethod, addMethod, removeMethod, resetKeyMethod, placeOf, isManager, isObject, isTelling, isLocking, isMuting, isSubscribing, hasMethod}
-use Rattle.objects.specs.Tests.{isForbidden, countOf, lengthOf, isPairBad, isMalformed, isEmitterBad, isValueBad, Allowed}
+use Rattle.objects.specs.Tests.{isForbidden, countOf, lengthOf, isPairBad, isMalformed, isEmitterBad, isValueBad, firstStatus, Allowed}
 use Rattle.objects.specs.Answers.{failedOf}
 use Rattle.objects.specs.declared.Answer.{Answer}
-use Rattle.objects.proofs.Shapes.{mute-at, formed-are}
+use Rattle.objects.proofs.Shapes.{mute-at, formed-are, first-allowed}
 use Rattle.device.specs.Run.{isHeldByOther, isOutOfTurn, isFull, statusOf, doneOf, answerOf, unchanged, runOf}
 use Rattle.device.specs.declared.Device.{Device}
 use Rattle.device.specs.declared.Ran.{Ran}
-use Rattle.device.proofs.Commands.{ran-failed, ran-done, mute-is, get-status}
+use Rattle.device.proofs.Commands.{ran-failed, ran-done, get-status}
 
 -- ---- lengths
 pub add-size : (part : List ℕ) → isMalformed addMethod 5 part ≡ false → length part ≡ 23
@@ -42,11 +41,11 @@ module _ (d : Device) (n t m : ℕ) (part : List ℕ) (r : Ran) (f : isMalformed
       let z : length part ≡ 0 = formed-are m (countOf m) part f .size ∙ ap lengthOf e ∙ l0 in
       rw (nil-of part z, e, c0) q
 
-  pub as-lock : m ≡ lockMethod → r ≡ runOf d n t lockMethod 0 [] → r ≡ runOf d n t m (countOf m) part
+  as-lock : m ≡ lockMethod → r ≡ runOf d n t lockMethod 0 [] → r ≡ runOf d n t m (countOf m) part
   unfolding countOf lengthOf
   as-lock e q = as-none lockMethod refl refl e q
 
-  pub as-unlock : m ≡ unlockMethod → r ≡ runOf d n t unlockMethod 0 [] → r ≡ runOf d n t m (countOf m) part
+  as-unlock : m ≡ unlockMethod → r ≡ runOf d n t unlockMethod 0 [] → r ≡ runOf d n t m (countOf m) part
   unfolding countOf lengthOf
   as-unlock e q = as-none unlockMethod refl refl e q
 
@@ -55,130 +54,159 @@ module _ (d : Device) (n t m : ℕ) (part : List ℕ) (r : Ran) (f : isMalformed
   as-told k c0 l0 g s e q =
       as-none k c0 l0 e (q ∙ ap (λ (x : Device). unchanged x (answerOf d t k)) (sym g) ∙ ran-done d n t k 0 [] s)
 
-  pub as-class : isObject t ≡ true → m ≡ classMethod → r ≡ unchanged d (answerOf d t classMethod) → r ≡ runOf d n t m (countOf m) part
+  as-class : isObject t ≡ true → m ≡ classMethod → r ≡ unchanged d (answerOf d t classMethod) → r ≡ runOf d n t m (countOf m) part
   unfolding countOf lengthOf doneOf statusOf hasMethod isTelling isLocking isForbidden isMalformed isPairBad isHeldByOther isEmitterBad isSubscribing isValueBad isOutOfTurn isFull
   as-class o e q = as-told classMethod refl refl refl (rw o) e q
 
-  pub as-lockable : isObject t ≡ true → m ≡ lockableMethod → r ≡ unchanged d (answerOf d t lockableMethod) → r ≡ runOf d n t m (countOf m) part
+  as-lockable : isObject t ≡ true → m ≡ lockableMethod → r ≡ unchanged d (answerOf d t lockableMethod) → r ≡ runOf d n t m (countOf m) part
   unfolding countOf lengthOf doneOf statusOf hasMethod isTelling isLocking isForbidden isMalformed isPairBad isHeldByOther isEmitterBad isSubscribing isValueBad isOutOfTurn isFull
   as-lockable o e q = as-told lockableMethod refl refl refl (rw o) e q
 
-  pub as-add : m ≡ addMethod → r ≡ runOf d n t addMethod 5 part → r ≡ runOf d n t m (countOf m) part
+  as-add : m ≡ addMethod → r ≡ runOf d n t addMethod 5 part → r ≡ runOf d n t m (countOf m) part
   unfolding countOf
   as-add e q = rw e q
 
-  pub as-remove : isSubscribing m ≡ true → (m ≡ addMethod → ⊥) → r ≡ runOf d n t removeMethod 2 part → r ≡ runOf d n t m (countOf m) part
-  unfolding countOf isSubscribing
-  as-remove s a q = let e : m ≡ removeMethod = eqb-true m removeMethod (rw (ne-eqb m addMethod a) at s) in rw e q
+  as-remove : m ≡ removeMethod → r ≡ runOf d n t removeMethod 2 part → r ≡ runOf d n t m (countOf m) part
+  unfolding countOf
+  as-remove e q = rw e q
 
-pub as-get : (d : Device) (n at m : ℕ) (part : List ℕ) (r : Ran) → at < 8 → isMalformed m (countOf m) part ≡ false → m ≡ getMethod → r ≡ unchanged d (answerOf d (4097 + at) getMethod) → r ≡ runOf d n (4097 + at) m (countOf m) part
+as-get : (d : Device) (n at m : ℕ) (part : List ℕ) (r : Ran) → at < 8 → isMalformed m (countOf m) part ≡ false → m ≡ getMethod → r ≡ unchanged d (answerOf d (4097 + at) getMethod) → r ≡ runOf d n (4097 + at) m (countOf m) part
 unfolding countOf lengthOf doneOf
 as-get d n at m part r h f e q = as-told d n (4097 + at) m part r f getMethod refl refl refl (get-status d n at h) e q
 
-pub formed-add : (m : ℕ) (part : List ℕ) → isMalformed m (countOf m) part ≡ false → m ≡ addMethod → isMalformed addMethod 5 part ≡ false
-unfolding countOf
-formed-add m part f e = rw e at f
-
-pub formed-remove : (m : ℕ) (part : List ℕ) → isMalformed m (countOf m) part ≡ false → isSubscribing m ≡ true → (m ≡ addMethod → ⊥) → isMalformed removeMethod 2 part ≡ false
-unfolding countOf isSubscribing
-formed-remove m part f s a = let e : m ≡ removeMethod = eqb-true m removeMethod (rw (ne-eqb m addMethod a) at s) in rw e at f
-
 -- ---- what is left when other methods are not
-pub target-is : (t at : ℕ) → isMute t ≡ true → at ≡ placeOf t → 4097 + at ≡ t
+target-is : (t at : ℕ) → isMute t ≡ true → at ≡ placeOf t → 4097 + at ≡ t
 unfolding placeOf
 target-is t at h e = omega (arith, mute-at t h)
 
-pub telling-not : (m : ℕ) → (m ≡ classMethod → ⊥) → (m ≡ lockableMethod → ⊥) → isTelling m ≡ false
+telling-not : (m : ℕ) → (m ≡ classMethod → ⊥) → (m ≡ lockableMethod → ⊥) → isTelling m ≡ false
 unfolding isTelling
 telling-not m a b = rw (ne-eqb m classMethod a, ne-eqb m lockableMethod b)
 
-pub allowed-at : (t at m : ℕ) (part : List ℕ) → isMute t ≡ true → at ≡ placeOf t → Allowed t m part → Allowed (4097 + at) m part
-allowed-at t at m part h e a =
-    let q = target-is t at h e in
-    record { object = rw q (a .object); method = rw q (a .method); allowed = rw q (a .allowed); formed = a .formed }
+subscribing-not : (m : ℕ) → (m ≡ addMethod → ⊥) → (m ≡ removeMethod → ⊥) → isSubscribing m ≡ false
+unfolding isSubscribing
+subscribing-not m a b = rw (ne-eqb m addMethod a, ne-eqb m removeMethod b)
 
-pub run-at : (d : Device) (n t at m : ℕ) (part : List ℕ) (r : Ran) → isMute t ≡ true → at ≡ placeOf t → r ≡ runOf d n (4097 + at) m (countOf m) part → r ≡ runOf d n t m (countOf m) part
-run-at d n t at m part r h e q = rw (target-is t at h e) at q
+-- add and remove are the subscription manager's
+add-at : (t : ℕ) → hasMethod t addMethod ≡ true → t ≡ 4
+unfolding hasMethod isTelling isLocking isMuting isSubscribing
+add-at t h = eqb-true t 4 (simp or-false at h)
 
--- a mute's method that is none of the others is set
-pub set-left : (at m : ℕ) (part : List ℕ) → at < 8 → Allowed (4097 + at) m part → isTelling m ≡ false → (m ≡ lockMethod → ⊥) → (m ≡ unlockMethod → ⊥) → (m ≡ getMethod → ⊥) → m ≡ setMethod
-unfolding hasMethod isLocking isMuting
-set-left at m part h a t l u g =
-    eqb-true m setMethod
-    (simp (
-      t,
-      ne-eqb m lockMethod l,
-      ne-eqb m unlockMethod u,
-      ne-eqb m getMethod g,
-      mute-is at h,
-      ne-eqb (4097 + at) 4 (λ e. omega arith),
-      ne-eqb (4097 + at) 1 (λ e. omega arith),
-      and-true,
-      and-false,
-      or-false,
-    )
-    at (a .method))
+remove-at : (t : ℕ) → hasMethod t removeMethod ≡ true → t ≡ 4
+unfolding hasMethod isTelling isLocking isMuting isSubscribing
+remove-at t h = eqb-true t 4 (simp or-false at h)
 
--- a manager's method that tells nothing is add or remove, of the subscription manager
-pub record Managing (t m : ℕ) : Type 0 where
-  pub subscribing : isSubscribing m ≡ true
-  pub target : t ≡ 4
+-- a method that is locked out of a manager, or a mute's only
+mute-of : (locking muting manager mute : Bool) → (locking || (muting && mute)) ≡ true → (locking && manager) ≡ false → (manager || mute) ≡ true → mute ≡ true
+mute-of locking muting manager true a b c = refl
+mute-of true muting true false a b c = sym b
+mute-of true muting false false a b c = c
+mute-of false true manager false a b c = a
+mute-of false false manager false a b c = a
 
-pub managing : (t m : ℕ) (part : List ℕ) → Allowed t m part → isMute t ≡ false → isTelling m ≡ false → Managing t m
-unfolding hasMethod isForbidden isObject
-managing t m part a u s =
-    let reset = or-neither (eqb m resetKeyMethod) (isLocking m && isManager t) (a .allowed) in
-    let manager : isManager t ≡ true = simp (u, or-false) at (a .object) in
-    let locking : isLocking m ≡ false = simp (manager, and-true) at (reset .1) in
-    let left : (isSubscribing m && eqb t 4) ≡ true = simp (s, locking, u, reset .0, and-false, or-false) at (a .method) in
-    record { subscribing = and-left _ _ left; target = eqb-true t 4 (and-right (isSubscribing m) _ left) }
+-- ---- a command that none of 5, 11, 8, 4 stops
+module _ (t k count : ℕ) (part : List ℕ) (s : ℕ) (es : s ≡ firstStatus t k count part) (z : s ≡ 0) where
+  passed : Allowed t k part
+  passed = first-allowed t k count part (sym es ∙ z) .0
 
-pub set-size : (at m : ℕ) (part : List ℕ) → at < 8 → Allowed (4097 + at) m part → isTelling m ≡ false → (m ≡ lockMethod → ⊥) → (m ≡ unlockMethod → ⊥) → (m ≡ getMethod → ⊥) → length part ≡ 1
-unfolding lengthOf
-set-size at m part h a t l u g =
-    let e = set-left at m part h a t l u g in
-    rw e at (formed-are m (countOf m) part (a .formed) .size)
+  pub add-formed : k ≡ addMethod → isMalformed addMethod 5 part ≡ false
+  unfolding countOf
+  add-formed e = rw e at (passed .formed)
 
-pub as-set : (d : Device) (n at m : ℕ) (part : List ℕ) (r : Ran) → at < 8 → Allowed (4097 + at) m part → isTelling m ≡ false → (m ≡ lockMethod → ⊥) → (m ≡ unlockMethod → ⊥) → (m ≡ getMethod → ⊥) → r ≡ runOf d n (4097 + at) setMethod 1 (getD part 0 0 ∷ []) → r ≡ runOf d n (4097 + at) m (countOf m) part
-unfolding countOf
-as-set d n at m part r h a t l u g q =
-    rw (set-left at m part h a t l u g) (q ∙ ap (λ (p : List ℕ). runOf d n (4097 + at) setMethod 1 p) (sym (one-of part (set-size at m part h a t l u g))))
+  pub remove-formed : k ≡ removeMethod → isMalformed removeMethod 2 part ≡ false
+  unfolding countOf
+  remove-formed e = rw e at (passed .formed)
 
-pub as-manager : (d : Device) (n t m : ℕ) (part : List ℕ) (r : Ran) → Allowed t m part → isMute t ≡ false → isTelling m ≡ false → r ≡ runOf d n 4 m (countOf m) part → r ≡ runOf d n t m (countOf m) part
-as-manager d n t m part r a u s q = rw (managing t m part a u s .target) q
+  module _ (c : k ≡ classMethod → ⊥) (l : k ≡ lockableMethod → ⊥) (a : k ≡ addMethod → ⊥) (r : k ≡ removeMethod → ⊥) where
+    pub mute-left : isMute t ≡ true
+    unfolding hasMethod isForbidden isObject
+    mute-left =
+        let reset = or-neither (eqb k resetKeyMethod) (isLocking k && isManager t) (passed .allowed) in
+        let method : (isLocking k || (isMuting k && isMute t)) ≡ true = simp (telling-not k c l, subscribing-not k a r, reset .0, or-false) at (passed .method) in
+        mute-of (isLocking k) (isMuting k) (isManager t) (isMute t) method (reset .1) (passed .object)
 
--- ---- the first four tests
-module _ (d : Device) (n t m count : ℕ) (part : List ℕ) (b : Bool) (q : b ≡ isObject t) where
-  pub run-object : not b ≡ true → (a : Answer) → a ≡ failedOf 5 → unchanged d a ≡ runOf d n t m count part
-  unfolding statusOf
-  run-object x a e = ran-failed d n t m count part 5 (rw (← q, x)) refl a e
+    module _ (f : k ≡ lockMethod → ⊥) (u : k ≡ unlockMethod → ⊥) (g : k ≡ getMethod → ⊥) where
+      set-left : k ≡ setMethod
+      unfolding hasMethod isForbidden isLocking isMuting
+      set-left =
+          let reset = or-neither (eqb k resetKeyMethod) (isLocking k && isManager t) (passed .allowed) in
+          eqb-true k setMethod
+          (simp (
+            telling-not k c l,
+            subscribing-not k a r,
+            reset .0,
+            mute-left,
+            ne-eqb k lockMethod f,
+            ne-eqb k unlockMethod u,
+            ne-eqb k getMethod g,
+            and-true,
+            or-false,
+          )
+          at (passed .method))
 
-  module _ (x : not b ≡ false) (k : ℕ) (ek : k ≡ m) (g : Bool) (p : g ≡ hasMethod t k) where
-    pub run-method : not g ≡ true → (a : Answer) → a ≡ failedOf 11 → unchanged d a ≡ runOf d n t m count part
-    unfolding statusOf
-    run-method y a e = ran-failed d n t m count part 11 (rw (← q, x, ← ek, ← p, y)) refl a e
+      pub set-size : length part ≡ 1
+      unfolding lengthOf
+      set-size = rw set-left at (formed-are k (countOf k) part (passed .formed) .size)
 
-    module _ (y : not g ≡ false) (f : Bool) (r : f ≡ isForbidden t k) where
-      pub run-forbidden : f ≡ true → (a : Answer) → a ≡ failedOf 8 → unchanged d a ≡ runOf d n t m count part
-      unfolding statusOf
-      run-forbidden z a e = ran-failed d n t m count part 8 (rw (← q, x, ← ek, ← p, y, ← r, z)) refl a e
+-- what stops a command is its status, whatever would come after
+first-stops : (a b c e : Bool) (x s : ℕ) → s ≡ cond a 5 (cond b 11 (cond c 8 (cond e 4 0))) → (s ≡ 0 → ⊥) → cond a 5 (cond b 11 (cond c 8 (cond e 4 x))) ≡ s
+first-stops true b c e x s q z = sym q
+first-stops false true c e x s q z = sym q
+first-stops false false true e x s q z = sym q
+first-stops false false false true x s q z = sym q
+first-stops false false false false x s q z = absurd (z q)
 
-      module _ (z : f ≡ false) (l : Bool) (s : l ≡ isMalformed k count part) where
-        pub run-malformed : l ≡ true → (a : Answer) → a ≡ failedOf 4 → unchanged d a ≡ runOf d n t m count part
-        unfolding statusOf
-        run-malformed w a e = ran-failed d n t m count part 4 (rw (← q, x, ← ek, ← p, y, ← r, z, ← s, w)) refl a e
+-- ---- one command: m is its method, of which k is the number
+module _ (d : Device) (n t m count : ℕ) (part : List ℕ) (k : ℕ) (ek : k ≡ m) (s : ℕ) (es : s ≡ firstStatus t k count part) where
+  pub run-stopped : (s ≡ 0 → ⊥) → (a : Answer) → a ≡ failedOf s → unchanged d a ≡ runOf d n t m count part
+  unfolding statusOf firstStatus
+  run-stopped z a e =
+      let w : statusOf d n t k count part ≡ s = first-stops (not (isObject t)) (not (hasMethod t k)) (isForbidden t k) (isMalformed k count part) _ s es z in
+      ran-failed d n t k count part s w (ne-eqb s 0 z) a e ∙ ap (λ (j : ℕ). runOf d n t j count part) ek
 
-        pub run-allowed : l ≡ false → Allowed t k part
-        run-allowed w =
-            let c = formed-are k count part (sym s ∙ w) .number in
-            record {
-              object = sym q ∙ not-false b x;
-              method = sym p ∙ not-false g y;
-              allowed = sym r ∙ z;
-              formed = ap (λ (j : ℕ). isMalformed k j part) (sym c) ∙ sym s ∙ w;
-            }
+  module _ (z : s ≡ 0) where
+    allowed : Allowed t k part
+    allowed = passed t k count part s es z
 
-        pub run-act : l ≡ false → (o : Ran) → o ≡ runOf d n t k (countOf k) part → o ≡ runOf d n t m count part
-        run-act w o e =
-            let c = formed-are k count part (sym s ∙ w) .number in
-            e ∙ ap (λ (j : ℕ). runOf d n t k j part) (sym c) ∙ ap (λ (j : ℕ). runOf d n t j count part) ek
+    as-run : (o : Ran) → o ≡ runOf d n t k (countOf k) part → o ≡ runOf d n t m count part
+    as-run o e =
+        let c = first-allowed t k count part (sym es ∙ z) .1 in
+        e ∙ ap (λ (j : ℕ). runOf d n t k j part) (sym c) ∙ ap (λ (j : ℕ). runOf d n t j count part) ek
+
+    pub run-class : k ≡ classMethod → (o : Ran) → o ≡ unchanged d (answerOf d t classMethod) → o ≡ runOf d n t m count part
+    run-class e o q = as-run o (as-class d n t k part o (allowed .formed) (allowed .object) e q)
+
+    pub run-lockable : k ≡ lockableMethod → (o : Ran) → o ≡ unchanged d (answerOf d t lockableMethod) → o ≡ runOf d n t m count part
+    run-lockable e o q = as-run o (as-lockable d n t k part o (allowed .formed) (allowed .object) e q)
+
+    pub run-add : k ≡ addMethod → (o : Ran) → o ≡ runOf d n 4 addMethod 5 part → o ≡ runOf d n t m count part
+    run-add e o q =
+        let u : t ≡ 4 = add-at t (ap (hasMethod t) (sym e) ∙ allowed .method) in
+        as-run o (as-add d n t k part o (allowed .formed) e (q ∙ ap (λ (j : ℕ). runOf d n j addMethod 5 part) (sym u)))
+
+    pub run-remove : k ≡ removeMethod → (o : Ran) → o ≡ runOf d n 4 removeMethod 2 part → o ≡ runOf d n t m count part
+    run-remove e o q =
+        let u : t ≡ 4 = remove-at t (ap (hasMethod t) (sym e) ∙ allowed .method) in
+        as-run o (as-remove d n t k part o (allowed .formed) e (q ∙ ap (λ (j : ℕ). runOf d n j removeMethod 2 part) (sym u)))
+
+    module _ (c : k ≡ classMethod → ⊥) (l : k ≡ lockableMethod → ⊥) (a : k ≡ addMethod → ⊥) (r : k ≡ removeMethod → ⊥) (at : ℕ) (p : (at ≡ placeOf t) × (at < 8)) where
+      as-mute : (o : Ran) → o ≡ runOf d n (4097 + at) k (countOf k) part → o ≡ runOf d n t m count part
+      as-mute o q =
+          let here = target-is t at (mute-left t k count part s es z c l a r) (p .0) in
+          as-run o (q ∙ ap (λ (j : ℕ). runOf d n j k (countOf k) part) here)
+
+      pub run-lock : k ≡ lockMethod → (o : Ran) → o ≡ runOf d n (4097 + at) lockMethod 0 [] → o ≡ runOf d n t m count part
+      run-lock e o q = as-mute o (as-lock d n (4097 + at) k part o (allowed .formed) e q)
+
+      pub run-unlock : k ≡ unlockMethod → (o : Ran) → o ≡ runOf d n (4097 + at) unlockMethod 0 [] → o ≡ runOf d n t m count part
+      run-unlock e o q = as-mute o (as-unlock d n (4097 + at) k part o (allowed .formed) e q)
+
+      pub run-get : k ≡ getMethod → (o : Ran) → o ≡ unchanged d (answerOf d (4097 + at) getMethod) → o ≡ runOf d n t m count part
+      run-get e o q = as-mute o (as-get d n at k part o (p .1) (allowed .formed) e q)
+
+      pub run-set : (k ≡ lockMethod → ⊥) → (k ≡ unlockMethod → ⊥) → (k ≡ getMethod → ⊥) → (o : Ran) → o ≡ runOf d n (4097 + at) setMethod 1 (getD part 0 0 ∷ []) → o ≡ runOf d n t m count part
+      unfolding countOf
+      run-set f u g o q =
+          let e = set-left t k count part s es z c l a r f u g in
+          let w = one-of part (set-size t k count part s es z c l a r f u g) in
+          as-mute o (rw e (q ∙ ap (λ (y : List ℕ). runOf d n (4097 + at) setMethod 1 y) (sym w)))

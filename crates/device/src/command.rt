@@ -4,12 +4,12 @@ use crate::Ran;
 use objects::Answer;
 use subscription::Subscription;
 ghost use mathlib.Core.Path.{_≡_};
-ghost use mathlib.Core.Bool.{true, false};
+ghost use mathlib.Core.Bool.{false};
 ghost use mathlib.Core.List.{[], _∷_};
 ghost use Prim.Native.Nat.{_+_, _<_};
 ghost use Rattle.subscription.specs.State.{firstMute};
-ghost use Rattle.objects.specs.Methods.{methodNumber, subscriptionManager, classMethod, lockableMethod, lockMethod, unlockMethod, getMethod, setMethod, addMethod, removeMethod, isTelling, isSubscribing};
-ghost use Rattle.objects.specs.Tests.{countOf, isMalformed, Allowed};
+ghost use Rattle.objects.specs.Methods.{methodNumber, subscriptionManager, classMethod, lockableMethod, lockMethod, unlockMethod, getMethod, setMethod, addMethod, removeMethod};
+ghost use Rattle.objects.specs.Tests.{isMalformed};
 ghost use Rattle.device.specs.Run.{answerOf, unchanged, runOf};
 
 impl Device {
@@ -189,79 +189,39 @@ impl Device {
         }
     }
 
-    fn act_mute(self, n: u8, at: usize, m: u32, part: &[u8]) -> Ran
-        requires { ⌜ (at < 8) × Allowed (firstMute + at) m (now part) × (isTelling m ≡ false) ⌝ }
-        ensures { λ r. ⌜ r ≡ runOf self n (firstMute + at) m (countOf m) (now (part .entry)) ⌝ }
+    // One command of connection n; `part` is the message from the entry's parameters on, bounded by the entry's size.
+    pub fn run(self, n: u8, target: u32, level: u16, index: u16, count: u8, part: &[u8]) -> Ran
+        ensures { λ r. ⌜ r ≡ runOf self n target (methodNumber level index) count (now (part .entry)) ⌝ }
     {
-        if m == objects::LOCK {
-            return self.lock(n, at);
+        let m = objects::method(level, index);
+        let status = objects::first_status(target, m, count, part);
+        if status != 0 {
+            return Ran {
+                device: self,
+                answer: Answer::failed(status),
+            };
         }
-        if m == objects::UNLOCK {
-            return self.unlock(n, at);
-        }
-        if m == objects::GET {
-            return self.get(at);
-        }
-        self.set(n, at, part[0])
-    }
-
-    fn act_manager(self, n: u8, m: u32, part: &[u8]) -> Ran
-        requires { ⌜ (isSubscribing m ≡ true) × (isMalformed m (countOf m) (now part) ≡ false) ⌝ }
-        ensures { λ r. ⌜ r ≡ runOf self n subscriptionManager m (countOf m) (now (part .entry)) ⌝ }
-    {
-        if m == objects::ADD {
-            return self.subscribe(n, part);
-        }
-        self.unsubscribe(n, part)
-    }
-
-    // A command that none of 5, 11, 8 and 4 stops.
-    fn act(self, n: u8, target: u32, m: u32, part: &[u8]) -> Ran
-        requires { ⌜ Allowed target m (now part) ⌝ }
-        ensures { λ r. ⌜ r ≡ runOf self n target m (countOf m) (now (part .entry)) ⌝ }
-    {
         if m == objects::CLASS {
             return self.class_identification(target);
         }
         if m == objects::LOCKABLE {
             return self.lockable(target);
         }
-        if subscription::is_mute(target) {
-            let at = objects::place(target);
-            return self.act_mute(n, at, m, part);
+        if m == objects::ADD {
+            return self.subscribe(n, part);
         }
-        self.act_manager(n, m, part)
-    }
-
-    // One command of connection n; `part` is the message from the entry's parameters on, bounded by the entry's size.
-    pub fn run(self, n: u8, target: u32, level: u16, index: u16, count: u8, part: &[u8]) -> Ran
-        ensures { λ r. ⌜ r ≡ runOf self n target (methodNumber level index) count (now (part .entry)) ⌝ }
-    {
-        let m = objects::method(level, index);
-        if !objects::is_object(target) {
-            return Ran {
-                device: self,
-                answer: Answer::failed(objects::NO_OBJECT),
-            };
+        if m == objects::REMOVE {
+            return self.unsubscribe(n, part);
         }
-        if !objects::has_method(target, m) {
-            return Ran {
-                device: self,
-                answer: Answer::failed(objects::NO_METHOD),
-            };
+        let at = objects::place(target);
+        if m == objects::LOCK {
+            self.lock(n, at)
+        } else if m == objects::UNLOCK {
+            self.unlock(n, at)
+        } else if m == objects::GET {
+            self.get(at)
+        } else {
+            self.set(n, at, part[0])
         }
-        if objects::is_forbidden(target, m) {
-            return Ran {
-                device: self,
-                answer: Answer::failed(objects::FORBIDDEN),
-            };
-        }
-        if objects::is_malformed(m, count, part) {
-            return Ran {
-                device: self,
-                answer: Answer::failed(objects::MALFORMED),
-            };
-        }
-        self.act(n, target, m, part)
     }
 }

@@ -1,4 +1,5 @@
-use Rattle.device.proofs.Shapes.{run-object, run-method, run-forbidden, run-malformed, run-allowed, run-act}
+use Rattle.device.proofs.Shapes.{run-stopped, add-formed, remove-formed, mute-left, set-size, run-class, run-lockable, run-add, run-remove, run-lock, run-unlock, run-get, run-set}
+use native.Mathlib.Omega.{arith}
 use borrow.Author.Needs.{needs}
 use Rattle.device.proofs.Device.run.Statement.{statement}
 use Rattle.device.proofs.Device.run.Tie as tie
@@ -6,66 +7,94 @@ use Rattle.device.proofs.Device.run.Tie as tie
 method-requires : tie.Need-method-requires
 method-requires c κs = search needs
 
-is-object-requires : tie.Need-is-object-requires
-is-object-requires c κs = search needs
+first-status-requires : tie.Need-first-status-requires
+first-status-requires c κs = search needs
 
 failed-requires : tie.Need-failed-requires
 failed-requires c κs = search needs
 
 returns : tie.Need-returns
-returns c = search run-object
+returns c = search run-stopped
 
-has-method-requires : tie.Need-has-method-requires
-has-method-requires c κs = search needs
-
-failed-requires-2 : tie.Need-failed-requires-2
-failed-requires-2 c κs = search needs
+class-identification-requires : tie.Need-class-identification-requires
+class-identification-requires c κs = search needs
 
 returns-2 : tie.Need-returns-2
-returns-2 c = search run-method
+returns-2 c = search run-class
 
-is-forbidden-requires : tie.Need-is-forbidden-requires
-is-forbidden-requires c κs = search needs
-
-failed-requires-3 : tie.Need-failed-requires-3
-failed-requires-3 c κs = search needs
+lockable-requires : tie.Need-lockable-requires
+lockable-requires c κs = search needs
 
 returns-3 : tie.Need-returns-3
-returns-3 c = search run-forbidden
+returns-3 c = search run-lockable
 
-is-malformed-requires : tie.Need-is-malformed-requires
-is-malformed-requires c κs = search needs
-
-failed-requires-4 : tie.Need-failed-requires-4
-failed-requires-4 c κs = search needs
+subscribe-requires : tie.Need-subscribe-requires
+subscribe-requires c κs = search add-formed
 
 returns-4 : tie.Need-returns-4
-returns-4 c = search run-malformed
+returns-4 c = search run-add
 
-act-requires : tie.Need-act-requires
-act-requires c κs =
-    let s = c .before .before .before .before .before .before .before .before .before .before in
-    run-allowed (s .args .self) (s .args .n) _ _ _ _ _ (c .before .before .before .before .before .before .before .is-object .ensures) (c .before .before .before .before .before .before .if1 .left) _ (c .before .before .before .before .before .before .before .before .method .ensures) _ (c .before .before .before .before .before .has-method .ensures) (c .before .before .before .before .if2 .left) _ (c .before .before .before .is-forbidden .ensures) (c .before .before .if3 .left) _ (c .before .is-malformed .ensures) (c .if4 .left)
+unsubscribe-requires : tie.Need-unsubscribe-requires
+unsubscribe-requires c κs = search remove-formed
 
 returns-5 : tie.Need-returns-5
-returns-5 c = search run-act
+returns-5 c = search run-remove
+
+place-requires : tie.Need-place-requires
+place-requires c κs = search mute-left
+
+lock-requires : tie.Need-lock-requires
+lock-requires c κs = search needs
+
+unlock-requires : tie.Need-unlock-requires
+unlock-requires c κs = search needs
+
+get-requires : tie.Need-get-requires
+get-requires c κs = search needs
+
+shared-slice-read-set : tie.Need-shared-slice-read-set
+shared-slice-read-set c =
+    let passed = c .before .before .before .before .before in
+    omega (arith, set-size _ _ _ _ _ (passed .before .before .before .before .before .first-status .ensures) (passed .before .before .before .before .if1 .left) (passed .before .before .before .if2 .left) (passed .before .before .if3 .left) (passed .before .if4 .left) (passed .if5 .left) (c .before .before .before .if6 .left) (c .before .before .if7 .left) (c .before .if8 .left))
+
+set-requires : tie.Need-set-requires
+set-requires c κs = search needs
+
+returns-6 : tie.Need-returns-6
+returns-6 c = search run-lock
+
+returns-7 : tie.Need-returns-7
+returns-7 c = search run-unlock
+
+returns-8 : tie.Need-returns-8
+returns-8 c = search run-get
+
+returns-9 : tie.Need-returns-9
+returns-9 c = search run-set
 
 pub run-spec : {M : Type 1} → statement M
 run-spec =
     tie.close
     (tie.spec
     method-requires
-    is-object-requires
+    first-status-requires
     failed-requires
     returns
-    has-method-requires
-    failed-requires-2
+    class-identification-requires
     returns-2
-    is-forbidden-requires
-    failed-requires-3
+    lockable-requires
     returns-3
-    is-malformed-requires
-    failed-requires-4
+    subscribe-requires
     returns-4
-    act-requires
-    returns-5)
+    unsubscribe-requires
+    returns-5
+    place-requires
+    lock-requires
+    unlock-requires
+    get-requires
+    shared-slice-read-set
+    set-requires
+    returns-6
+    returns-7
+    returns-8
+    returns-9)
