@@ -1,7 +1,5 @@
 // Runs the commands of a message in order, and writes a response to each into a lent output.
 use device::Device;
-use device::Ran;
-use fields::CommandFields;
 use objects::Answer;
 ghost use mathlib.Core.Path.{_≡_};
 ghost use mathlib.Core.Bool.{cond, true};
@@ -12,19 +10,12 @@ ghost use lib.Dec.{eqb};
 ghost use Rattle.frame.specs.Limits.{leastResponse};
 ghost use Rattle.frame.specs.Entry.{entriesFill};
 ghost use Rattle.replies.specs.Bytes.{responseBytes};
-ghost use Rattle.serve.specs.Serve.{ranWith, lastOf, responsesOf};
+ghost use Rattle.serve.specs.Serve.{lastOf, responsesOf};
 
 pub struct Served {
     pub device: Device,
     // the place behind the last response
     pub end: usize,
-}
-
-fn run_with(device: Device, n: u8, c: CommandFields, part: &[u8]) -> Ran
-    ensures { λ r. ⌜ r ≡ ranWith device n c (now (part .entry)) ⌝ }
-{
-    let m = c.method;
-    device.run(n, c.target, m.level, m.index, c.count, part)
 }
 
 // A command of type 0 gets no response.
@@ -51,7 +42,9 @@ pub fn serve(device: Device, n: u8, kind: u8, count: u16, body: &[u8], out: &mut
         let size = frame::entry_size(t, kind);
         let e = &t[..size];
         let c = fields::command_of(e);
-        let ran = run_with(d, n, c, fields::parameters(kind, e));
+        let m = c.method;
+        let part = fields::parameters(kind, e);
+        let ran = d.run(n, c.target, m.level, m.index, c.count, part);
         at = answer_to(out, at, kind, c.handle, ran.answer);
         d = ran.device;
         t = &t[size..];

@@ -6,7 +6,7 @@ use lib.Dec.{eqb}
 use lib.ListN.{length, take, drop}
 use lib.Seq.{sets}
 use Rattle.serve.proofs.Serves.{Serving, first-fits, first-long, serving-none, serving-more, serving-last, serving-end, serving-bytes}
-use Rattle.serve.specs.Serve.{ranFirst, responseTo}
+use Rattle.serve.specs.Serve.{ranWith, ranFirst, responseTo}
 use Rattle.frame.specs.Entry.{entrySize}
 use Rattle.frame.proofs.Entries.{least-command}
 use mathlib.Core.Path.{_≡_}
@@ -46,21 +46,21 @@ command-of-requires c κs =
 
 parameters-requires : tie.Need-parameters-requires Inv-loop μ-loop
 parameters-requires c κs =
-    let l = c .before .before .before .before .loop in
-    let a = c .before .before .before .before .before .before .before .args in
+    let l = c .before .before .before .before .before .loop in
+    let a = c .before .before .before .before .before .before .before .before .args in
     let f = first-long (l .left) (a .kind) (l .t .now) (omega arith) (omega arith) (l .inv .fill) in
-    let s : c .before .before .entry-size .result ≡ entrySize (a .kind) (l .t .now) = c .before .before .entry-size .ensures .0 in
+    let s : c .before .before .before .entry-size .result ≡ entrySize (a .kind) (l .t .now) = c .before .before .before .entry-size .ensures .0 in
     rw s (omega (arith, least-command (a .kind) (omega arith)))
 
-run-with-requires : tie.Need-run-with-requires Inv-loop μ-loop
-run-with-requires c κs = search needs
+run-requires : tie.Need-run-requires Inv-loop μ-loop
+run-requires c κs = search needs
 
 answer-to-requires : tie.Need-answer-to-requires Inv-loop μ-loop
-unfolding ranFirst
+unfolding ranFirst ranWith
 answer-to-requires c κs =
-    let l = c .before .before .before .before .before .before .before .loop in
-    let a = c .before .before .before .before .before .before .before .before .before .before .args in
-    let r : c .before .run-with .result ≡ ranFirst (l .d) (a .n) (a .kind) (l .t .now) = cc in
+    let l = c .before .before .before .before .before .before .before .before .loop in
+    let a = c .before .before .before .before .before .before .before .before .before .before .before .args in
+    let r : c .before .run .result ≡ ranFirst (l .d) (a .n) (a .kind) (l .t .now) = cc in
     (rw r (first-fits (l .d) (a .n) (a .kind) (l .t .now) .low), omega (arith, l .inv .room))
 
 sub-t : tie.Need-sub-t Inv-loop μ-loop
@@ -79,14 +79,14 @@ loop-less : tie.Need-loop-less Inv-loop μ-loop
 loop-less c = search needs
 
 loop-again : tie.Need-loop-again Inv-loop μ-loop
-unfolding ranFirst responseTo
+unfolding ranFirst ranWith responseTo
 loop-again c =
-    let l = c .before .before .before .before .before .before .before .before .before .before .before .before .loop in
-    let a = c .before .before .before .before .before .before .before .before .before .before .before .before .before .before .before .args in
+    let l = c .before .before .before .before .before .before .before .before .before .before .before .before .before .loop in
+    let a = c .before .before .before .before .before .before .before .before .before .before .before .before .before .before .before .before .args in
     let t = l .t .now in
-    let s : c .before .before .before .before .before .before .before .before .before .before .entry-size .result ≡ entrySize (a .kind) t = c .before .before .before .before .before .before .before .before .before .before .entry-size .ensures .0 in
-    let r : c .before .before .before .before .before .before .run-with .result ≡ ranFirst (l .d) (a .n) (a .kind) t = cc in
-    let z : take (length t - c .before .before .before .before .before .before .before .before .before .before .entry-size .result) (drop (c .before .before .before .before .before .before .before .before .before .before .entry-size .result) t) ≡ drop (entrySize (a .kind) t) t = cc (rest (c .before .before .before .before .before .before .before .before .before .before .entry-size .result) t) in
+    let s : c .before .before .before .before .before .before .before .before .before .before .before .entry-size .result ≡ entrySize (a .kind) t = c .before .before .before .before .before .before .before .before .before .before .before .entry-size .ensures .0 in
+    let r : c .before .before .before .before .before .before .run .result ≡ ranFirst (l .d) (a .n) (a .kind) t = cc in
+    let z : take (length t - c .before .before .before .before .before .before .before .before .before .before .before .entry-size .result) (drop (c .before .before .before .before .before .before .before .before .before .before .before .entry-size .result) t) ≡ drop (entrySize (a .kind) t) t = cc (rest (c .before .before .before .before .before .before .before .before .before .before .before .entry-size .result) t) in
     let ea : c .before .before .before .before .answer-to .result ≡ cond (eqb (a .kind) 0) (l .at) (l .at + (leastResponse + ranFirst (l .d) (a .n) (a .kind) t .answer .length)) = cc in
     let en : c .before .before .before .before .answer-to .last .0 ≡ cond (eqb (a .kind) 0) (l .out) (sets (l .out) (l .at) (responseTo (l .d) (a .n) (a .kind) t)) = cc in
     rw (r, z)
@@ -115,7 +115,7 @@ serve-spec =
     slice-aggregate-e
     command-of-requires
     parameters-requires
-    run-with-requires
+    run-requires
     answer-to-requires
     sub-t
     part-t-start
