@@ -23,6 +23,13 @@ held-some : (cs : List Connection) (h : ℕ) (b : Bool) → (h ≡ 0 → ⊥) �
 unfolding holderObeys
 held-some cs h b n q = rw (ne-eqb h 0 n, ← q)
 
+module _ (h : ℕ) (live : Bool) where
+  pub held-kept : live ≡ true → h ≡ cond live h 0
+  held-kept t = rw t
+
+  pub held-gone : live ≡ false → 0 ≡ cond live h 0
+  held-gone t = rw t
+
 -- the loop that tests the holders, at holder i
 module _ (cs : List Connection) {n : ℕ} {t : Bool} {i : ℕ} {l : List ℕ} (d : ℕ) (m : Testing (holderObeys cs) n t i l) (k : i < n) where
   pub obeys-none : getD l i d ≡ 0 → Testing (holderObeys cs) n t (i + 1) l
