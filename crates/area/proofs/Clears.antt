@@ -1,18 +1,48 @@
 -- Laws of clearing the parts of closed connections. Assumes nothing.
-use Prim.Native.Nat.{ℕ, suc, _+_, _≤_, _<_}
+use Prim.Native.Nat.{ℕ, suc, _+_, _-_, _≤_, _<_}
 use mathlib.Core.Path.{_≡_, refl, sym, ap, _∙_}
-use mathlib.Core.List.{List, [], _∷_}
+use mathlib.Core.List.{List, [], _∷_, _++_}
 use mathlib.Core.Bool.{Bool, cond, true, false}
 use native.Mathlib.Omega.{arith}
 use native.Mathlib.Numerals.{add-one}
-use lib.ListN.{length, drop, getD, drop-of-length-le}
-use lib.Seq.{drop-cons, length-sets}
+use lib.ListN.{length, take, drop, getD, drop-of-length-le}
+use lib.Seq.{sets, drop-cons, drop-drop, length-sets}
+use Rattle.laws.proofs.Parts.{drop-take}
+use Rattle.laws.proofs.Stores.{drop-sets, sets-append, sets-same}
+use Rattle.octets.proofs.Scans.{length-zeros, zeros-append, drop-zeros}
 use Rattle.octets.specs.Zeros.{zeros}
-use Rattle.area.specs.Area.{partBytes, areaBytes, partAt, partCleared, clearedFrom, closedCleared}
+use Rattle.area.specs.Area.{partBytes, areaBytes, partAt, ZerosBehind, partCleared, clearedFrom, closedCleared}
 
 pub length-cleared : (area : List ℕ) (n : ℕ) → length (partCleared area n) ≡ length area
 unfolding partCleared
 length-cleared area n = length-sets area (partAt n) (zeros partBytes)
+
+-- zeros in front of zeros clear the part
+pub used-cleared : (area : List ℕ) (n u : ℕ) → partAt n + partBytes ≤ length area → u ≤ partBytes → ZerosBehind area n u
+    → sets area (partAt n) (zeros u) ≡ partCleared area n
+unfolding partCleared
+used-cleared area n u h f z =
+    let b = partAt n in
+    let c = sets area b (zeros u) in
+    let l : length (zeros u) ≡ u = length-zeros u in
+    let lc : length c ≡ length area = length-sets area b (zeros u) in
+    let e : zeros partBytes ≡ zeros u ++ zeros (partBytes - u) =
+    let q : partBytes ≡ u + (partBytes - u) = omega arith in
+    ap zeros q ∙ sym (zeros-append u (partBytes - u)) in
+    let d : drop (b + u) c ≡ drop (b + u) area = drop-sets (zeros u) area b (b + u) (omega arith) in
+    let y : zeros (partBytes - u) ≡ take (partBytes - u) (drop (b + u) c) = sym (ap (take (partBytes - u)) d ∙ z) in
+    sym (ap (sets area b) e ∙ sets-append (zeros u) (zeros (partBytes - u)) area b ∙ rw l (ap (sets c (b + u)) y ∙ sets-same c (b + u) (partBytes - u) (omega arith)))
+
+-- further back they are zeros too
+pub zeros-further : (area : List ℕ) (n k u : ℕ) → k ≤ u → u ≤ partBytes → ZerosBehind area n k → ZerosBehind area n u
+zeros-further area n k u h f z =
+    let b = partAt n in
+    let m = u - k in
+    let p : partBytes - k - m ≡ partBytes - u = omega arith in
+    let q : b + k + m ≡ b + u = omega arith in
+    let x : drop m (take (partBytes - k) (drop (b + k) area)) ≡ take (partBytes - u) (drop (b + u) area) =
+    drop-take m (partBytes - k) (drop (b + k) area) ∙ rw (p, drop-drop m (b + k) area, q) refl in
+    sym x ∙ ap (drop m) z ∙ drop-zeros m (partBytes - k) ∙ ap zeros p
 
 pub length-unless : (live : Bool) (area : List ℕ) (n : ℕ) → length (cond live area (partCleared area n)) ≡ length area
 length-unless true area n = refl

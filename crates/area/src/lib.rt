@@ -3,7 +3,7 @@ ghost use mathlib.Core.Path.{_≡_};
 ghost use mathlib.Core.Bool.{cond};
 ghost use Prim.Native.Nat.{_+_, _≤_};
 ghost use lib.ListN.{length};
-ghost use Rattle.area.specs.Area.{partBytes, areaBytes, partAt, partSound, areaSound, partCleared, closedCleared, heldKept, countObeys, heldObeys};
+ghost use Rattle.area.specs.Area.{partBytes, areaBytes, partAt, partSound, areaSound, ZerosBehind, partCleared, closedCleared, heldKept, countObeys, heldObeys};
 
 pub const CONNECTIONS: usize = 8;
 
@@ -61,6 +61,16 @@ pub fn clear_part(area: &mut [u8], n: usize)
 {
     let base = n * PART;
     let end = base + PART;
+    octets::clear(&mut area[base..end]);
+}
+
+// The same where only the first `used` bytes need it: a message is mostly far shorter than its part.
+pub fn clear_used(area: &mut [u8], n: usize, used: usize)
+    requires { ⌜ (partAt n + partBytes ≤ length (now area)) × (used ≤ partBytes) × ZerosBehind (now area) n used ⌝ }
+    ensures { λ _. ⌜ now (area .exit) ≡ partCleared (now (area .entry)) n ⌝ }
+{
+    let base = n * PART;
+    let end = base + used;
     octets::clear(&mut area[base..end]);
 }
 

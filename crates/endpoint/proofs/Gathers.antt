@@ -18,7 +18,8 @@ use Rattle.frame.specs.declared.Decision.{Decision}
 use Rattle.frame.specs.declared.Decision.the-variants.{Undecided, Faulty, Sound}
 use Rattle.frame.proofs.Ways.{deciding, unsettled}
 use Rattle.frame.proofs.Sounds.{sound-at}
-use Rattle.area.specs.Area.{partBytes, areaBytes, partAt, undecidedOf, partCleared}
+use Rattle.area.specs.Area.{partBytes, areaBytes, partAt, undecidedOf, ZerosBehind, partCleared}
+use Rattle.area.proofs.Clears.{zeros-further}
 use Rattle.frame.proofs.Bytes.{beyond}
 use Rattle.endpoint.specs.Deliver.{Lying, Whole, gathered}
 
@@ -152,7 +153,16 @@ module _ (area : List ℕ) (n k : ℕ) (w : Lying area n k) where
         ∙ sym (take-append-le t (x ++ p) (drop (partBytes - k) piece) (omega (arith, taken-fits, long-p)))
         ∙ ap (take t) (sym y)
 
-    pub message-whole : (t : ℕ) → decide (undecidedOf area n k ++ piece) ≡ Sound t → Whole (gathered area n k piece) n k t
+    -- behind what was gathered all is as it was
+    zeroed-behind : ZerosBehind (gathered area n k piece) n (k + min (partBytes - k) (length piece))
+    unfolding gathered p
+    zeroed-behind =
+        let u = k + min (partBytes - k) (length piece) in
+        ap (take (partBytes - u)) (drop-sets p area (partAt n + k) (partAt n + u) (omega (arith, length-p)))
+        ∙ zeros-further area n k u (omega arith) (omega (arith, w .few)) (w .zeroed)
+
+    pub message-whole : (t : ℕ) → decide (undecidedOf area n k ++ piece) ≡ Sound t
+        → Whole (gathered area n k piece) n k t (k + min (partBytes - k) (length piece))
     unfolding settled taken x p
     message-whole t e =
         let s : settled (decide (x ++ piece)) ≡ true = rw e in
@@ -165,4 +175,6 @@ module _ (area : List ℕ) (n k : ℕ) (w : Lying area n k) where
           behind = omega (arith, decided-behind s);
           fits = omega (arith, taken-fits, length-p, w .few);
           sound = rw m (sound-at (take t (x ++ piece)) t d);
+          reach = omega (arith, w .few);
+          zeroed = zeroed-behind;
         }

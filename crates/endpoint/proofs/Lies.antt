@@ -1,19 +1,21 @@
 -- What a record that obeys and an area that row 2 does not refuse say of one connection. Assumes nothing.
-use Prim.Native.Nat.{ℕ, zero, suc, _+_, _≤_, _<_}
+use Prim.Native.Nat.{ℕ, zero, suc, _+_, _-_, _≤_, _<_}
 use mathlib.Core.Path.{_≡_, refl, sym, ap, _∙_}
 use mathlib.Core.Bool.{Bool, cond, true, false, not, _&&_, true≢false}
 use mathlib.Core.List.{List, [], _∷_}
 use native.Mathlib.Omega.{arith}
 use native.Mathlib.Nat.{not-suc-le-zero, le-of-suc-le-suc}
 use lib.Dec.{eqb, leb}
-use lib.ListN.{length, take, drop, getD}
-use lib.Seq.{take-take, drop-drop}
+use lib.ListN.{length, take, drop, getD, length-drop}
+use lib.Seq.{take-take, drop-drop, length-take-le}
 use borrow.Author.Tests.{leb-true, eqb-true, not-true}
 use Rattle.laws.proofs.Conds.{and-left, and-right}
-use Rattle.octets.specs.Zeros.{allZero}
+use Rattle.laws.proofs.Parts.{drop-take}
+use Rattle.octets.specs.Zeros.{zeros, allZero}
+use Rattle.octets.proofs.Scans.{zeros-of-all}
 use Rattle.frame.specs.Limits.{greatestSize}
 use Rattle.frame.specs.Decide.{decide, settled}
-use Rattle.area.specs.Area.{partBytes, areaBytes, partAt, partSound, partsSound, areaSound, undecidedOf, countObeys, heldObeys}
+use Rattle.area.specs.Area.{partBytes, areaBytes, partAt, partSound, partsSound, areaSound, undecidedOf, ZerosBehind, countObeys, heldObeys}
 use Rattle.device.specs.Rules.{deviceObeys}
 use Rattle.endpoint.specs.State.{livesIn, recordObeys}
 use Rattle.endpoint.specs.Deliver.{heldAt, Lying}
@@ -42,6 +44,10 @@ part-at (k ∷ held) area (suc n) e h =
     let r = part-at held (drop partBytes area) n (and-right (partSound k (take partBytes area)) (partsSound held (drop partBytes area)) e) (le-of-suc-le-suc h) in
     rw (drop-drop (partAt n) partBytes area, p) at r
 
+sounds : (b p : Bool) → cond b p false ≡ true → p ≡ true
+sounds true p e = e
+sounds false p e = absurd (true≢false (sym e))
+
 waits-at : (held area : List ℕ) (n : ℕ) → areaSound held area ≡ true → n < length held → getD held n 0 ≤ greatestSize
     → settled (decide (undecidedOf area n (getD held n 0))) ≡ false
 unfolding areaSound undecidedOf partSound
@@ -52,14 +58,31 @@ waits-at held area n e h f =
     let t : take k (take partBytes x) ≡ take k x = take-take k partBytes x (omega arith) in
     not-true (settled (decide (take k x)))
     (rw t at (and-left (not (settled (decide (take k (take partBytes x))))) (allZero (drop k (take partBytes x))) (part-at held area n s h)))
-  where
-    sounds : (b p : Bool) → cond b p false ≡ true → p ≡ true
-    sounds true p e = e
-    sounds false p e = absurd (true≢false (sym e))
+
+zeroed-at : (held area : List ℕ) (n : ℕ) → areaSound held area ≡ true → n < length held → n < 8 → length area ≡ areaBytes → getD held n 0 ≤ greatestSize
+    → ZerosBehind area n (getD held n 0)
+unfolding areaSound partSound
+zeroed-at held area n e h n8 l f =
+    let k = getD held n 0 in
+    let x = drop (partAt n) area in
+    let s = sounds (eqb (length area) areaBytes) (partsSound held area) e in
+    let z = and-right (not (settled (decide (take k (take partBytes x))))) (allZero (drop k (take partBytes x))) (part-at held area n s h) in
+    let q : drop k (take partBytes x) ≡ take (partBytes - k) (drop (partAt n + k) area) =
+    drop-take k partBytes x ∙ ap (take (partBytes - k)) (drop-drop k (partAt n) area) in
+    let m : length (take (partBytes - k) (drop (partAt n + k) area)) ≡ partBytes - k =
+    length-take-le (partBytes - k) (drop (partAt n + k) area) (rw length-drop (omega arith)) in
+    sym q ∙ zeros-of-all (drop k (take partBytes x)) z ∙ ap zeros (ap length q ∙ m)
 
 pub lies : (r : Record) (area : List ℕ) (n : ℕ) → recordObeys r ≡ true → areaSound (r .held) area ≡ true → n < 8
     → length (livesIn (r .device)) ≡ 8 → length (r .held) ≡ 8 → Lying area n (heldAt r n)
 unfolding recordObeys
 lies r area n o a h l m =
     let f = held-few (livesIn (r .device)) (r .held) n (and-right (deviceObeys (r .device)) (heldObeys (livesIn (r .device)) (r .held)) o) (omega arith) in
-    record { number = h; long = area-long (r .held) area a; few = f; waiting = waits-at (r .held) area n a (omega arith) f }
+    let g = area-long (r .held) area a in
+    record {
+      number = h;
+      long = g;
+      few = f;
+      waiting = waits-at (r .held) area n a (omega arith) f;
+      zeroed = zeroed-at (r .held) area n a (omega arith) h g f;
+    }

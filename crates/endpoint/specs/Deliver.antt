@@ -12,7 +12,7 @@ use Rattle.frame.specs.Sound.{SoundAt}
 use Rattle.frame.specs.declared.Decision.{Decision}
 use Rattle.frame.specs.declared.Decision.the-variants.{Undecided, Faulty, Sound}
 use Rattle.layout.specs.Message.{atFront}
-use Rattle.area.specs.Area.{partBytes, areaBytes, partAt, areaSound, undecidedOf, partCleared}
+use Rattle.area.specs.Area.{partBytes, areaBytes, partAt, areaSound, undecidedOf, ZerosBehind, partCleared}
 use Rattle.connection.specs.State.{liveAt}
 use Rattle.rules.specs.Rule.{Ruled, soundOf}
 use Rattle.endpoint.specs.State.{stateOf, recordObeys, closedState}
@@ -63,15 +63,18 @@ pub record Lying (area : List ℕ) (n k : ℕ) : Type 0 where
   pub long : length area ≡ areaBytes
   pub few : k ≤ greatestSize
   pub waiting : settled (decide (undecidedOf area n k)) ≡ false
+  pub zeroed : ZerosBehind area n k
 
 -- the piece, as far as it fits, behind them
 unfoldable pub gathered : List ℕ → ℕ → ℕ → List ℕ → List ℕ
 gathered area n k piece = sets area (partAt n + k) (take (partBytes - k) piece)
 
--- a sound message of t bytes at the front of connection n's part, of which k were there before
-pub record Whole (area : List ℕ) (n k t : ℕ) : Type 0 where
+-- a sound message of t bytes at the front of connection n's part, of which k were there before; u bytes lie there
+pub record Whole (area : List ℕ) (n k t u : ℕ) : Type 0 where
   pub number : n < 8
   pub long : length area ≡ areaBytes
   pub behind : k ≤ t
   pub fits : t ≤ partBytes
   pub sound : SoundAt (undecidedOf area n t) t
+  pub reach : u ≤ partBytes
+  pub zeroed : ZerosBehind area n u

@@ -41,9 +41,17 @@ impl Record {
         self
     }
 
-    // The sound message of t bytes at the front of connection n's part, of which k were there before, is run.
-    fn run(self, area: &mut [u8], n: u8, k: usize, t: usize, output: &mut [u8]) -> Delivered
-        requires { ⌜ Whole (now area) n k t × (leastOutput ≤ length (now output)) ⌝ }
+    // The sound message of t bytes at the front of connection n's part, of which k were there before, is run; `used` bytes lie there.
+    fn run(
+        self,
+        area: &mut [u8],
+        n: u8,
+        k: usize,
+        t: usize,
+        used: usize,
+        output: &mut [u8],
+    ) -> Delivered
+        requires { ⌜ Whole (now area) n k t used × (leastOutput ≤ length (now output)) ⌝ }
         ensures { λ r. ⌜ outcome (deliveryNumbers (r .answer)) (r .state) (now (area .exit)) (now (output .exit)) ≡ messaged (soundOf (self .device) n (undecidedOf (now (area .entry)) n t)) self (now (area .entry)) n (t - k) (now (output .entry)) ⌝ }
     {
         let at = n as usize;
@@ -51,7 +59,7 @@ impl Record {
         let end = base + t;
         let device = self.device;
         let ruling = rules::sound(device, n, &area[base..end], output);
-        area::clear_part(area, at);
+        area::clear_used(area, at, used);
         let next = ruling.device;
         let mut held = self.held;
         held[at] = 0;
@@ -81,7 +89,10 @@ impl Record {
                     answer: Delivery::Closed(t - k, f),
                 }
             }
-            Decision::Sound(t) => self.run(area, n, k, t, output),
+            Decision::Sound(t) => {
+                let used = k + least(area::PART - k, piece.len());
+                self.run(area, n, k, t, used, output)
+            }
         }
     }
 

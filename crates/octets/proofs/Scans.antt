@@ -1,12 +1,13 @@
 -- Zeros, stored and looked for. Assumes nothing.
-use Prim.Native.Nat.{ℕ, zero, suc, _+_, _≤_, _<_}
+use Prim.Native.Nat.{ℕ, zero, suc, _+_, _-_, _≤_, _<_}
 use mathlib.Core.Path.{_≡_, refl, sym, ap, _∙_}
 use mathlib.Core.List.{List, [], _∷_, _++_}
 use mathlib.Core.Bool.{Bool, true, false, _&&_}
 use native.Mathlib.Omega.{arith}
+use native.Mathlib.Nat.{sub-zero, zero-sub, suc-sub-suc}
 use native.Mathlib.Numerals.{add-one}
 use lib.Dec.{eqb}
-use lib.ListN.{length, take, getD, set, length-replicate, replicate-append-replicate}
+use lib.ListN.{length, take, drop, getD, set, length-replicate, replicate-append-replicate}
 use lib.Seq.{take-suc, take-suc-set, take-all}
 use borrow.Author.Tests.{eqb-true, eq-eqb, ne-eqb}
 use Rattle.laws.proofs.Conds.{and-left, and-right}
@@ -31,6 +32,12 @@ length-zeros n = length-replicate n 0
 pub zeros-append : (m n : ℕ) → zeros m ++ zeros n ≡ zeros (m + n)
 unfolding zeros
 zeros-append m n = replicate-append-replicate m n 0
+
+pub drop-zeros : (k n : ℕ) → drop k (zeros n) ≡ zeros (n - k)
+unfolding zeros
+drop-zeros zero n = rw sub-zero
+drop-zeros (suc k) zero = rw zero-sub
+drop-zeros (suc k) (suc n) = rw suc-sub-suc (drop-zeros k n)
 
 -- a loop that clears: nothing done, one byte more, all done
 pub clear-none : (l : List ℕ) → take 0 l ≡ zeros 0

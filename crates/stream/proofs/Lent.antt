@@ -8,13 +8,13 @@ use mathlib.Core.List.{List, [], _∷_, _++_, append-nil, append-assoc}
 use native.Mathlib.Omega.{arith}
 use native.Mathlib.Decide.{ℕ-discrete}
 use native.Mathlib.Numerals.{add-one}
-use native.Mathlib.Nat.{not-suc-le-zero, sub-zero, zero-sub, suc-sub-suc, add-zero, zero-add, suc-add, add-suc}
+use native.Mathlib.Nat.{not-suc-le-zero, add-zero, zero-add, suc-add, add-suc}
 use lib.ListN.{length, take, drop, set, getD, length-append, length-drop, List·getD-append, drop-of-length-le, take-append-drop, replicate}
 use lib.Seq.{take-at, drop-at, take-append-le, drop-append-le, take-append-seam, set-append-left, set-at, getD-at, take-length, take-take, take-all, drop-drop, drop-append-seam, take-add, sets, sets-eq}
 use lib.Dec.{eqb}
 use borrow.Author.Tests.{eq-eqb, ne-eqb, eqb-true}
 use Rattle.octets.specs.Zeros.{zeros, allZero}
-use Rattle.octets.proofs.Scans.{length-zeros, zeros-append, all-zero-zeros}
+use Rattle.octets.proofs.Scans.{drop-zeros, length-zeros, zeros-append, all-zero-zeros}
 use Rattle.frame.specs.Decide.{decide, settled}
 use Rattle.area.specs.Area.{partBytes, areaBytes, partAt, partSound, partsSound, areaSound, undecidedOf, partCleared, clearedFrom, closedCleared, heldKept}
 use Rattle.stream.specs.Machine.{Held, none-held, put, only}
@@ -181,12 +181,6 @@ clear-flat h n c s l =
     let a = flat h n in
     let f : partAt c + length (zeros partBytes) ≤ length a = rw (length-zeros partBytes) (omega (arith, length-flat h n s)) in
     sets-eq (zeros partBytes) a (partAt c) f ∙ rw (length-zeros partBytes) (write-flat h n c [] s l)
-
-drop-zeros : (k n : ℕ) → drop k (zeros n) ≡ zeros (n - k)
-unfolding zeros
-drop-zeros zero n = rw sub-zero
-drop-zeros (suc k) zero = rw zero-sub
-drop-zeros (suc k) (suc n) = rw suc-sub-suc (drop-zeros k n)
 
 -- a piece behind the bytes of connection c
 pub put-flat : (h : Held) (n c : ℕ) (p : List ℕ) → Small h → c < n → length (h c ++ p) ≤ partBytes

@@ -36,8 +36,8 @@ sound-requires c κs =
     let l : length (take (a .t) (drop (partAt (a .n)) (now (a .area)))) ≡ a .t = length-take-le (a .t) (drop (partAt (a .n)) (now (a .area))) (rw length-drop (omega (arith, w .number, w .long, w .fits))) in
     rw (z, l) (w .sound, s .pre .1)
 
-clear-part-requires : tie.Need-clear-part-requires
-clear-part-requires c κs = search needs
+clear-used-requires : tie.Need-clear-used-requires
+clear-used-requires c κs = search needs
 
 mul-held : tie.Need-mul-held
 mul-held c = search needs
@@ -45,8 +45,8 @@ mul-held c = search needs
 array-write-held : tie.Need-array-write-held
 array-write-held c = search needs
 
-sub-t15 : tie.Need-sub-t15
-sub-t15 c = search needs
+sub-t16 : tie.Need-sub-t16
+sub-t16 c = search needs
 
 same-length : tie.Need-same-length
 same-length c = search needs
@@ -61,7 +61,7 @@ returns c =
     let a = s .args in
     let z : partAt (a .n) + a .t - partAt (a .n) ≡ a .t = omega arith in
     let q = rw z at (c .before .before .before .before .before .before .before .before .sound .ensures) in
-    messaged-is (soundOf (a .self .device) (a .n) (take (a .t) (drop (partAt (a .n)) (now (a .area))))) (a .self) (now (a .area)) (a .n) (a .t - a .k) (now (a .output)) (c .before .before .before .before .before .before .before .before .sound .result .length) (c .before .before .before .before .before .before .before .before .sound .result .device) (c .before .before .before .before .clear-part .last .0) (c .before .before .before .before .before .before .before .before .sound .last .1 .1 .1 .0) (q .1) (q .0) (c .before .before .before .before .clear-part .ensures) (q .2)
+    messaged-is (soundOf (a .self .device) (a .n) (take (a .t) (drop (partAt (a .n)) (now (a .area))))) (a .self) (now (a .area)) (a .n) (a .t - a .k) (now (a .output)) (c .before .before .before .before .before .before .before .before .sound .result .length) (c .before .before .before .before .before .before .before .before .sound .result .device) (c .before .before .before .before .clear-used .last .0) (c .before .before .before .before .before .before .before .before .sound .last .1 .1 .1 .0) (q .1) (q .0) (c .before .before .before .before .clear-used .ensures) (q .2)
 
 pub run-spec : {M : Type 1} → statement M
 run-spec =
@@ -73,10 +73,10 @@ run-spec =
     part-sound-start
     part-sound-end
     sound-requires
-    clear-part-requires
+    clear-used-requires
     mul-held
     array-write-held
-    sub-t15
+    sub-t16
     same-length
     same-length-2
     returns)

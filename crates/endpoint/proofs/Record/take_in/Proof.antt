@@ -55,9 +55,9 @@ clear-part-requires c κs = search needs
 closed-requires : tie.Need-closed-requires
 closed-requires c κs = search needs
 
-sub-t30 : tie.Need-sub-t30
+sub-t31 : tie.Need-sub-t31
 unfolding settled taken
-sub-t30 c =
+sub-t31 c =
     let s = c .before .before .before .before .before .before .before .before .before .before .before .before .before .before .before .before in
     let a = s .args in
     let area = now (a .area) in
@@ -72,17 +72,26 @@ sub-t30 c =
 enum-known-t : tie.Need-enum-known-t
 enum-known-t c = search needs
 
+sub-least : tie.Need-sub-least
+sub-least c = search needs
+
+least-requires : tie.Need-least-requires
+least-requires c κs = search needs
+
+add-used : tie.Need-add-used
+add-used c = search needs
+
 run-requires : tie.Need-run-requires
 run-requires c κs =
-    let s = c .before .before .before .before .before .before .before .before .before .before .before .before .before in
+    let s = c .before .before .before .before .before .before .before .before .before .before .before .before .before .before in
     let a = s .args in
     let area = now (a .area) in
     let n = a .n in
     let k = getD (a .self .held) n 0 in
     let piece = now (a .piece) in
     let w = s .pre .0 in
-    let t = c .before .before .before .t .given .0 .0 in
-    (rw (c .before .before .before .before .before .before .before .gather .ensures .1) (message-whole area n k w piece t (cc)), omega arith)
+    let t = c .before .before .before .before .t .given .0 .0 in
+    (rw (c .before .before .before .before .before .before .before .before .gather .ensures .1, c .before .before .least .ensures) (message-whole area n k w piece t (cc)), omega arith)
 
 same-length : tie.Need-same-length
 same-length c = search needs
@@ -124,17 +133,17 @@ same-length-4 c = search needs
 returns-3 : tie.Need-returns-3
 unfolding taken
 returns-3 c =
-    let s = c .before .before .before .before .before .before .before .before .before .before .before .before .before .before .before .before .before .before in
+    let s = c .before .before .before .before .before .before .before .before .before .before .before .before .before .before .before .before .before .before .before in
     let a = s .args in
     let area = now (a .area) in
     let n = a .n in
     let k = getD (a .self .held) n 0 in
     let piece = now (a .piece) in
     let w = s .pre .0 in
-    let t = c .before .before .before .before .before .before .before .before .t .given .0 .0 in
-    let g = c .before .before .before .before .before .before .before .before .before .before .before .before .gather .last .0 in
-    let e : decide (undecidedOf area n k ++ piece) ≡ Sound t = cc (c .before .before .before .before .before .before .before .before .t .given .1, c .before .before .before .before .before .before .before .before .before .before .before .before .gather .ensures .0) in
-    let ge : g ≡ gathered area n k piece = c .before .before .before .before .before .before .before .before .before .before .before .before .gather .ensures .1 in
+    let t = c .before .before .before .before .before .before .before .before .before .t .given .0 .0 in
+    let g = c .before .before .before .before .before .before .before .before .before .before .before .before .before .gather .last .0 in
+    let e : decide (undecidedOf area n k ++ piece) ≡ Sound t = cc (c .before .before .before .before .before .before .before .before .before .t .given .1, c .before .before .before .before .before .before .before .before .before .before .before .before .before .gather .ensures .0) in
+    let ge : g ≡ gathered area n k piece = c .before .before .before .before .before .before .before .before .before .before .before .before .before .gather .ensures .1 in
     let m : undecidedOf g n t ≡ take t (undecidedOf area n k ++ piece) = ap (λ (l : List ℕ). undecidedOf l n t) ge ∙ (rw e at (message-lies area n k w piece)) in
     taken-runs (a .self) area n k piece (now (a .output)) t g _ e m (rw ge (cleared-gathered area n k w piece)) (c .before .before .before .before .run .ensures)
 
@@ -153,8 +162,11 @@ take-in-spec =
     enum-known-f
     clear-part-requires
     closed-requires
-    sub-t30
+    sub-t31
     enum-known-t
+    sub-least
+    least-requires
+    add-used
     run-requires
     same-length
     returns
