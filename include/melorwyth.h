@@ -75,7 +75,7 @@
  * - put anything but 0 or 1 into a bool of the record;
  * - pass one record and area to two calls at the same time;
  * - call with less than about 24 KB of stack: records pass by value, and the
- *   largest frame, that of melorwyth_deliver, is 14 KB.
+ *   deepest call, melorwyth_deliver, takes 16 KB (docs/BENCHMARKS.md).
  *
  * A record that was changed between calls is not in this list: if it breaks a
  * record rule it is refused by 1, and if it keeps them it is simply another state.
