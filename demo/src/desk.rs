@@ -205,10 +205,11 @@ impl<W: Write> Desk<W> {
         Ok(())
     }
 
-    /// The time is the amplifier's: the reading of its last tick.
+    /// The time is the amplifier's: the reading of its last tick. A line goes out in one piece, so that none is seen torn.
     fn say(&mut self, what: impl Display) -> io::Result<()> {
         let reading = self.amplifier.record().device.reading;
-        writeln!(self.lines, "{reading:>8} ms  {what}")?;
+        let line = format!("{reading:>8} ms  {what}\n");
+        self.lines.write_all(line.as_bytes())?;
         self.lines.flush()
     }
 }

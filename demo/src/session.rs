@@ -292,7 +292,8 @@ impl<W: Write> Session<W> {
 
     fn line(&mut self, name: &str, what: impl Display) -> io::Result<()> {
         let reading = self.clock.reading();
-        writeln!(self.lines, "{reading:>8} ms  {name}: {what}")?;
+        let line = format!("{reading:>8} ms  {name}: {what}\n");
+        self.lines.write_all(line.as_bytes())?;
         self.lines.flush()
     }
 }

@@ -28,8 +28,11 @@ impl Write for Log {
 }
 
 impl Log {
+    /// The lines that are whole.
     pub fn text(&self) -> String {
-        String::from_utf8(self.0.lock().unwrap().clone()).unwrap()
+        let mut text = String::from_utf8(self.0.lock().unwrap().clone()).unwrap();
+        text.truncate(text.rfind('\n').map_or(0, |end| end + 1));
+        text
     }
 
     /// Waits for the first line with these words; answers its time and the line.
