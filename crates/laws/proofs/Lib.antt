@@ -4,3 +4,4 @@ pub mod Inverse
 pub mod Stores
 pub mod Loops
 pub mod Tables
+pub mod Decimals

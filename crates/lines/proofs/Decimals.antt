@@ -1,15 +1,17 @@
 -- The decimal digits of a number. Assumes nothing.
 use Prim.Native.Nat.{ℕ, zero, suc, _+_, _-_, _*_, _/_, _%_, _^_, _≤_, _<_}
 use mathlib.Core.Path.{_≡_, refl, _∙_}
-use mathlib.Core.List.{List, [], _∷_, _++_}
+use mathlib.Core.List.{List, [], _∷_}
 use mathlib.Core.Bool.{Bool, true, false}
 use native.Mathlib.Omega.{arith}
 use native.Mathlib.Nat.{pow-suc, mod-eq-of-lt, pow-le-pow-right, one-le-pow}
 use lib.Dec.{ltb, leb}
 use lib.ListN.{length, length-append}
-use borrow.Author.Tests.{lt-ltb, le-ltb, ltb-true, ltb-false, leb-true, leb-false}
+use borrow.Author.Tests.{lt-ltb, ltb-true, ltb-false, leb-true, leb-false}
 use Rattle.io.specs.Digits.{digits, Fewest, glyph}
-use Rattle.lines.specs.Text.{digit, decimalWithin, decimalOf, numberText, greatestDigits}
+use Rattle.laws.specs.Decimal.{digit, decimalWithin, decimalOf, greatestDigits}
+use Rattle.laws.proofs.Decimals.{one-digit, more-digits}
+use Rattle.lines.specs.Text.{numberText}
 
 -- a digit that io writes
 glyph-digit : (d : ℕ) → d < 10 → glyph d ≡ digit d
@@ -23,14 +25,6 @@ low-part n p h = omega arith
 
 high-part : (n p : ℕ) → p * 10 ≤ n → p ≤ n / 10
 high-part n p h = omega arith
-
-one-digit : (f n : ℕ) → n < 10 → decimalWithin (suc f) n ≡ digit n ∷ []
-unfolding decimalWithin
-one-digit f n h = simp (lt-ltb n 10 h)
-
-more-digits : (f n : ℕ) → 10 ≤ n → decimalWithin (suc f) n ≡ decimalWithin f (n / 10) ++ (digit (n % 10) ∷ [])
-unfolding decimalWithin
-more-digits f n h = simp (le-ltb n 10 h)
 
 within-digits : (f r n : ℕ) → r ≤ f → Fewest 10 1 n r → digits 10 r n ≡ decimalWithin f n
 within-digits f zero n h w = absurd (omega (arith, w .0))

@@ -1,7 +1,8 @@
 use mathlib.Core.Path.{_≡_, ap}
 use lib.ListN.{length, take}
 use native.Mathlib.Omega.{arith}
-use Rattle.lines.specs.Text.{decimalOf, numberText}
+use Rattle.laws.specs.Decimal.{decimalOf}
+use Rattle.lines.specs.Text.{numberText}
 use Rattle.lines.proofs.Putting.{puts-then, puts-one, puts-length}
 use Rattle.lines.proofs.Decimals.{decimal-digits, number-length}
 use borrow.Author.Needs.{needs}

@@ -3,7 +3,8 @@ use Rattle.octets.specs.Numbers.{be16At, be32At}
 use Rattle.frame.specs.Header.{countFault, fieldsFault, headerFault}
 use Rattle.frame.specs.Entry.{leastEntry, countPlace, leastCount, countFits, entryFits, entrySize, entriesFill}
 use Rattle.frame.specs.Decide.{keepAliveFill, dataSound, decideData, decideHeader, decide, taken}
-use Rattle.lines.specs.Text.{decimalWithin, decimalOf, numberText, messageLine, stopLine, partLine, endLine}
+use Rattle.laws.specs.Decimal.{decimalWithin, decimalOf}
+use Rattle.lines.specs.Text.{numberText, messageLine, stopLine, partLine, endLine}
 use Rattle.lister.specs.Listing.{soundFirst, messagesWithin, messagesOf, bytesOf, lineOf, linesOf, lastBy, lastLine, listedBytes, unlisted, listingFrom, listing}
 use Rattle.lister.proofs.sample_listed.Statement.{statement}
 use Rattle.lister.proofs.sample_listed.Tie as tie

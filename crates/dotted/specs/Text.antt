@@ -1,0 +1,102 @@
+-- The text of an address: document 02 (ii), "IPv4 address in dotted decimal, each part 0 to 255 without leading zeros".
+use Prim.Native.Nat.{ℕ, _+_, _-_, _*_}
+use mathlib.Core.List.{List, [], _∷_, _++_, map}
+use mathlib.Core.Bool.{Bool, true, false, cond, _&&_}
+use lib.Dec.{eqb, leb}
+use Rattle.laws.specs.Decimal.{decimalOf}
+use Rattle.dotted.specs.declared.Dotted.{Dotted}
+use Rattle.dotted.specs.declared.Part.{Part}
+
+-- "dotted": '.' in ASCII
+abbrev pub dot : ℕ
+dot = 46
+
+-- "dotted": the byte that parts two fields
+unfoldable pub isDot : ℕ → Bool
+isDot x = eqb x dot
+
+-- "decimal": '0' to '9'
+unfoldable pub isDigit : ℕ → Bool
+isDigit x = leb 48 x && leb x 57
+
+-- "without leading zeros": the first of several digits is '1' to '9'
+unfoldable pub isLeading : ℕ → Bool
+isLeading x = leb 49 x && leb x 57
+
+-- "decimal": the number of a digit
+unfoldable pub valueOf : ℕ → ℕ
+valueOf x = x - 48
+
+-- a text that is no part
+abbrev pub noPart : Part
+noPart = record { sound = false; number = 0 }
+
+-- "each part 0 to 255"
+unfoldable pub partIf : Bool → ℕ → Part
+partIf digits n = cond (digits && leb n 255) (record { sound = true; number = n }) noPart
+
+-- one digit, '0' too
+unfoldable pub oneDigit : ℕ → Part
+oneDigit a = partIf (isDigit a) (valueOf a)
+
+-- two digits, the first not '0'
+unfoldable pub twoDigits : ℕ → ℕ → Part
+twoDigits a b = partIf (isLeading a && isDigit b) (valueOf a * 10 + valueOf b)
+
+-- three digits, the first not '0'
+unfoldable pub threeDigits : ℕ → ℕ → ℕ → Part
+threeDigits a b c = partIf (isLeading a && isDigit b && isDigit c) (valueOf a * 100 + valueOf b * 10 + valueOf c)
+
+-- "each part 0 to 255 without leading zeros": a text of no digit, or of more than three, is no part
+unfoldable pub partOf : List ℕ → Part
+partOf [] = noPart
+partOf (a ∷ []) = oneDigit a
+partOf (a ∷ b ∷ []) = twoDigits a b
+partOf (a ∷ b ∷ c ∷ []) = threeDigits a b c
+partOf (a ∷ b ∷ c ∷ d ∷ s) = noPart
+
+-- a byte in front of the first field
+unfoldable pub onto : ℕ → List (List ℕ) → List (List ℕ)
+onto x [] = (x ∷ []) ∷ []
+onto x (f ∷ fs) = (x ∷ f) ∷ fs
+
+-- "dotted": what stands before, between and behind the dots
+unfoldable pub fieldsOf : List ℕ → List (List ℕ)
+fieldsOf [] = [] ∷ []
+fieldsOf (x ∷ t) = cond (isDot x) ([] ∷ fieldsOf t) (onto x (fieldsOf t))
+
+-- "IPv4 address": a text that is none gives zeros
+abbrev pub noAddress : Dotted
+noAddress = record { sound = false; address = 0 ∷ 0 ∷ 0 ∷ 0 ∷ [] }
+
+-- "IPv4 address": its four numbers in the order of the text
+abbrev pub anAddress : ℕ → ℕ → ℕ → ℕ → Dotted
+anAddress a b c d = record { sound = true; address = a ∷ b ∷ c ∷ d ∷ [] }
+
+-- "each part": all four
+unfoldable pub addressOf : Part → Part → Part → Part → Dotted
+addressOf a b c d =
+    cond (a .sound && b .sound && c .sound && d .sound) (anAddress (a .number) (b .number) (c .number) (d .number)) noAddress
+
+-- "IPv4 address": four parts, neither fewer nor more
+unfoldable pub ofParts : List Part → Dotted
+ofParts [] = noAddress
+ofParts (a ∷ []) = noAddress
+ofParts (a ∷ b ∷ []) = noAddress
+ofParts (a ∷ b ∷ c ∷ []) = noAddress
+ofParts (a ∷ b ∷ c ∷ d ∷ []) = addressOf a b c d
+ofParts (a ∷ b ∷ c ∷ d ∷ e ∷ ps) = noAddress
+
+-- the parts of a text, sound or not
+unfoldable pub partsOf : List ℕ → List Part
+partsOf t = map partOf (fieldsOf t)
+
+-- "IPv4 address in dotted decimal, each part 0 to 255 without leading zeros"
+unfoldable pub dottedOf : List ℕ → Dotted
+dottedOf t = ofParts (partsOf t)
+
+-- the text of numbers: each in decimal, a dot between two
+unfoldable pub textOf : List ℕ → List ℕ
+textOf [] = []
+textOf (n ∷ []) = decimalOf n
+textOf (n ∷ m ∷ ns) = decimalOf n ++ (dot ∷ textOf (m ∷ ns))
