@@ -8,6 +8,7 @@ ghost use lib.Dec.{eqb};
 ghost use lib.Seq.{sets};
 ghost use Rattle.octets.specs.Numbers.{be16At, be32At, bytes16, bytes32};
 ghost use Rattle.octets.specs.Zeros.{zeros, allZero};
+ghost use Rattle.octets.specs.Same.{sameBytes};
 
 fn pair(a: u8, b: u8) -> u16
     ensures { λ r. ⌜ r ≡ a * 256 + b ⌝ }
@@ -99,6 +100,29 @@ pub fn all_zero(s: &[u8]) -> bool
     while i < s.len() {
         greatest = greater(greatest, s[i]);
         i += 1;
+    }
+    greatest == 0
+}
+
+// 0 where two bytes are the same.
+fn difference(a: u8, b: u8) -> u8
+    ensures { λ r. ⌜ eqb r 0 ≡ eqb a b ⌝ }
+{
+    if a == b { 0 } else { 1 }
+}
+
+// Every byte is looked at, wherever they differ: the time taken tells nothing of how many were right.
+pub fn same(a: &[u8], b: &[u8]) -> bool
+    ensures { λ r. ⌜ r ≡ sameBytes (now (a .entry)) (now (b .entry)) ⌝ }
+{
+    if a.len() != b.len() {
+        return false;
+    }
+    let mut greatest: u8 = 0;
+    let mut at: usize = 0;
+    while at < a.len() {
+        greatest = greater(greatest, difference(a[at], b[at]));
+        at += 1;
     }
     greatest == 0
 }
