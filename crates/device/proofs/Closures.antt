@@ -200,7 +200,7 @@ swept-at cs hs n at l e =
     let p : n + 1 - 1 ≡ n = omega arith in
     List·getD-map (sweptHolder cs) hs at 0 ∙ rw (e, ne-eqb (n + 1) 0 (λ z. omega arith), p, l)
 
-free-locks : (d : Device) (k at : ℕ) → at < 8 → getD (d .holders) at 0 ≡ 0 → runOf d k (4097 + at) lockMethod 0 [] .answer .status ≡ 0
+pub free-locks : (d : Device) (k at : ℕ) → at < 8 → getD (d .holders) at 0 ≡ 0 → runOf d k (4097 + at) lockMethod 0 [] .answer .status ≡ 0
 unfolding isOther
 free-locks d k at h e = lock-free d k at h (isOther (getD (d .holders) at 0) k) refl (rw e)
 

@@ -4,20 +4,24 @@ use mathlib.Core.Path.{_≡_, refl, sym, ap, _∙_}
 use mathlib.Core.Bool.{Bool, true, false, cond, not, or-false}
 use mathlib.Core.List.{List, [], _∷_, map}
 use native.Mathlib.Omega.{arith}
-use borrow.Author.Tests.{le-leb, lt-ltb, le-ltb, eq-eqb, ne-eqb}
+use borrow.Author.Tests.{le-leb, lt-ltb, le-ltb, eq-eqb, ne-eqb, not-true, not-false}
 use lib.Dec.{eqb, ltb}
 use lib.ListN.{length, getD, set}
 use Rattle.laws.specs.Lists.{any}
-use Rattle.laws.proofs.Tables.{any-index}
+use Rattle.laws.proofs.Tables.{any-index, clash}
 use Rattle.octets.specs.Numbers.{be32At}
+use Rattle.mechanism.specs.State.{disarmed}
+use Rattle.mechanism.specs.Arguments.{isUntaken, armedBy, armingOf}
+use Rattle.mechanism.specs.declared.Mechanism.{Mechanism}
+use Rattle.mechanism.specs.declared.Arming.{Arming}
 use Rattle.subscription.specs.State.{isMute, isTwin, isUnused, twinAt, lowestUnused, free, markedOf}
 use Rattle.subscription.specs.declared.Subscription.{Subscription}
-use Rattle.objects.specs.Methods.{classMethod, lockableMethod, lockMethod, unlockMethod, getMethod, setMethod, addMethod, removeMethod, placeOf, isManager, isObject, isTelling, isLocking, isMuting, isSubscribing, hasMethod}
-use Rattle.objects.specs.Tests.{isForbidden, countOf, lengthOf, isPairBad, isMalformed, entryOf, withContext, isStrange, isEmitterBad, isMuteValue, isValueBad}
+use Rattle.objects.specs.Methods.{classMethod, lockableMethod, lockMethod, unlockMethod, getMethod, setMethod, addMethod, removeMethod, resetKeyMethod, placeOf, isManager, isObject, isTelling, isLocking, isMuting, isSubscribing, hasMethod}
+use Rattle.objects.specs.Tests.{isForbidden, countOf, lengthOf, isLengthBad, isPairBad, isMalformed, entryOf, withContext, isStrange, isEmitterBad, isMuteValue, isValueBad}
 use Rattle.objects.specs.Answers.{classOf, identificationOf, replyOf, failedOf, toldOf}
 use Rattle.objects.specs.declared.Answer.{Answer}
 use Rattle.holders.specs.Holders.{ownerOf, isOther}
-use Rattle.device.specs.State.{withSubscriptions, withHolders}
+use Rattle.device.specs.State.{withSubscriptions, withHolders, withMechanism}
 use Rattle.device.specs.Run.{holderAt, muteAt, isHeldByOther, isSubscribed, isOutOfTurn, isFull, statusOf, mutedOf, doneOf, answerOf, unchanged, ranBy, runOf}
 use Rattle.device.specs.declared.Device.{Device}
 use Rattle.device.specs.declared.Ran.{Ran}
@@ -46,20 +50,20 @@ place-of at = omega arith
 
 module _ (d : Device) (n at : ℕ) (h : at < 8) where
   lock-status : statusOf d n (4097 + at) lockMethod 0 [] ≡ cond (isOther (getD (d .holders) at 0) n) 3 0
-  unfolding statusOf isObject hasMethod isTelling isLocking isForbidden isMalformed countOf lengthOf isPairBad isHeldByOther holderAt isEmitterBad isSubscribing isValueBad isOutOfTurn isFull
+  unfolding statusOf isObject hasMethod isTelling isLocking isForbidden isMalformed countOf lengthOf isLengthBad isPairBad isHeldByOther holderAt isEmitterBad isSubscribing isValueBad isOutOfTurn isFull
   lock-status = rw (manager-not at, mute-is at h, place-of at)
 
   unlock-status : statusOf d n (4097 + at) unlockMethod 0 [] ≡ cond (isOther (getD (d .holders) at 0) n) 3 (cond (eqb (getD (d .holders) at 0) 0) 9 0)
-  unfolding statusOf isObject hasMethod isTelling isLocking isForbidden isMalformed countOf lengthOf isPairBad isHeldByOther holderAt isEmitterBad isSubscribing isValueBad isOutOfTurn isFull
+  unfolding statusOf isObject hasMethod isTelling isLocking isForbidden isMalformed countOf lengthOf isLengthBad isPairBad isHeldByOther holderAt isEmitterBad isSubscribing isValueBad isOutOfTurn isFull
   unlock-status = simp (manager-not at, mute-is at h, place-of at, or-false)
 
   pub get-status : statusOf d n (4097 + at) getMethod 0 [] ≡ 0
-  unfolding statusOf isObject hasMethod isTelling isLocking isMuting isForbidden isMalformed countOf lengthOf isPairBad isHeldByOther isEmitterBad isSubscribing isValueBad isOutOfTurn isFull
+  unfolding statusOf isObject hasMethod isTelling isLocking isMuting isForbidden isMalformed countOf lengthOf isLengthBad isPairBad isHeldByOther isEmitterBad isSubscribing isValueBad isOutOfTurn isFull
   get-status = rw (manager-not at, mute-is at h)
 
   set-status : (v : ℕ) → statusOf d n (4097 + at) setMethod 1 (v ∷ []) ≡ cond (isOther (getD (d .holders) at 0) n) 3 (cond (not (isMuteValue v)) 7 0)
-  unfolding statusOf isObject hasMethod isTelling isLocking isMuting isForbidden isMalformed countOf lengthOf isPairBad isHeldByOther holderAt isEmitterBad isSubscribing isValueBad isOutOfTurn isFull
-  set-status v = rw (manager-not at, mute-is at h, place-of at)
+  unfolding statusOf isObject hasMethod isTelling isLocking isMuting isForbidden isMalformed countOf lengthOf isLengthBad isPairBad isHeldByOther holderAt isEmitterBad isSubscribing isValueBad isOutOfTurn isFull
+  set-status v = simp (manager-not at, mute-is at h, place-of at, or-false)
 
   module _ (b : Bool) (q : b ≡ isOther (getD (d .holders) at 0) n) where
     pub lock-other : b ≡ true → (a : Answer) → a ≡ failedOf 3 → unchanged d a ≡ runOf d n (4097 + at) lockMethod 0 []
@@ -110,11 +114,11 @@ module _ (d : Device) (n at : ℕ) (h : at < 8) where
             stays : unchanged d (toldOf []) ≡ record { device = mutedOf d (4097 + at) v; answer = toldOf [] }
             stays = rw (place-of at, eq-eqb (getD (d .mutes) at 0) v s)
 
-        pub set-changed : not g ≡ false → (getD (d .mutes) at 0 ≡ v → ⊥) → (ss : List Subscription) → ss ≡ map (markedOf (4097 + at)) (d .subscriptions) → (a : Answer) → a ≡ toldOf [] → _≡_ {A = Ran} (record { device = record { reading = d .reading; connections = d .connections; subscriptions = ss; mutes = set (d .mutes) at v; holders = d .holders }; answer = a }) (runOf d n (4097 + at) setMethod 1 (v ∷ []))
+        pub set-changed : not g ≡ false → (getD (d .mutes) at 0 ≡ v → ⊥) → (ss : List Subscription) → ss ≡ map (markedOf (4097 + at)) (d .subscriptions) → (a : Answer) → a ≡ toldOf [] → _≡_ {A = Ran} (record { device = record { reading = d .reading; connections = d .connections; subscriptions = ss; mutes = set (d .mutes) at v; holders = d .holders; mechanism = d .mechanism }; answer = a }) (runOf d n (4097 + at) setMethod 1 (v ∷ []))
         unfolding mutedOf muteAt
         set-changed f s ss m a e = rw (e, m) (changes ∙ set-does f)
           where
-            changes : _≡_ {A = Ran} (record { device = record { reading = d .reading; connections = d .connections; subscriptions = map (markedOf (4097 + at)) (d .subscriptions); mutes = set (d .mutes) at v; holders = d .holders }; answer = toldOf [] }) (record { device = mutedOf d (4097 + at) v; answer = toldOf [] })
+            changes : _≡_ {A = Ran} (record { device = record { reading = d .reading; connections = d .connections; subscriptions = map (markedOf (4097 + at)) (d .subscriptions); mutes = set (d .mutes) at v; holders = d .holders; mechanism = d .mechanism }; answer = toldOf [] }) (record { device = mutedOf d (4097 + at) v; answer = toldOf [] })
             changes = rw (place-of at, ne-eqb (getD (d .mutes) at 0) v s)
 
 -- ---- what is told
@@ -204,3 +208,32 @@ module _ (d : Device) (n : ℕ) (part : List ℕ) where
       unfolding doneOf answerOf replyOf
       remove-done h a e =
           rw (e, place-is x s es i ei l) (ran-done d n 4 removeMethod 2 part (remove-status f ∙ rw (← q, t, held-is x s es i ei l h)))
+
+-- ---- the mechanism
+module _ (d : Device) (part : List ℕ) (f : isMalformed resetKeyMethod 2 part ≡ false) (o : Arming) (q : o ≡ armingOf part) (n : ℕ) where
+  arm-status : statusOf d n 1 resetKeyMethod 2 part ≡ cond (isUntaken part) 7 0
+  unfolding statusOf isObject isManager hasMethod isTelling isLocking isMuting isForbidden isHeldByOther isEmitterBad isSubscribing isValueBad isOutOfTurn isFull
+  arm-status = simp (f, or-false)
+
+  -- whether it is armed, told by what was made of the arguments
+  untaken-told : (t : Bool) → isUntaken part ≡ t → o .taken ≡ not t
+  unfolding armingOf
+  untaken-told true e = ap (λ (x : Arming). x .taken) q ∙ rw e
+  untaken-told false e = ap (λ (x : Arming). x .taken) q ∙ rw e
+
+  pub arm-bad : not (o .taken) ≡ true → (a : Answer) → a ≡ failedOf 7 → unchanged d a ≡ runOf d n 1 resetKeyMethod 2 part
+  arm-bad t a e = go (isUntaken part) refl
+    where
+      go : (b : Bool) → isUntaken part ≡ b → unchanged d a ≡ runOf d n 1 resetKeyMethod 2 part
+      go true u = ran-failed d n 1 resetKeyMethod 2 part 7 (arm-status ∙ rw u) refl a e
+      go false u = clash _ (o .taken) (untaken-told false u) (not-true (o .taken) t)
+
+  pub arm-done : not (o .taken) ≡ false → (a : Answer) → a ≡ toldOf [] → _≡_ {A = Ran} (record { device = withMechanism d (o .mechanism); answer = a }) (runOf d n 1 resetKeyMethod 2 part)
+  unfolding doneOf answerOf replyOf armingOf
+  arm-done t a e = go (isUntaken part) refl
+    where
+      go : (b : Bool) → isUntaken part ≡ b → _≡_ {A = Ran} (record { device = withMechanism d (o .mechanism); answer = a }) (runOf d n 1 resetKeyMethod 2 part)
+      go true u = clash _ (o .taken) (not-false (o .taken) t) (untaken-told true u)
+      go false u =
+          let m : o .mechanism ≡ armedBy part = ap (λ (x : Arming). x .mechanism) q ∙ rw u in
+          rw (e, m) (ran-done d n 1 resetKeyMethod 2 part (arm-status ∙ rw u))

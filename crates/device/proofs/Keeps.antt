@@ -21,16 +21,20 @@ use Rattle.connection.specs.declared.Connection.{Connection}
 use Rattle.connection.proofs.Times.{live-below}
 use Rattle.connection.proofs.Keeps.{supervision-kept}
 use Rattle.octets.specs.Numbers.{be32At}
+use Rattle.mechanism.specs.Arguments.{isUntaken, armedBy}
+use Rattle.mechanism.specs.Rules.{mechanismObeys}
+use Rattle.mechanism.specs.declared.Mechanism.{Mechanism}
+use Rattle.mechanism.proofs.Kept.{mechanism-kept}
 use Rattle.subscription.specs.State.{changeEvent, free, isMute, isTwin, twinAt, lowestUnused, markedOf, toldOf, sweptOf}
 use Rattle.subscription.specs.Rules.{entryObeys, apart}
 use Rattle.subscription.specs.declared.Subscription.{Subscription}
 use Rattle.subscription.proofs.Keeps.{entries-kept, obeys-sound}
-use Rattle.objects.specs.Methods.{lockMethod, unlockMethod, setMethod, addMethod, removeMethod, placeOf, isObject, isSubscribing, hasMethod}
+use Rattle.objects.specs.Methods.{lockMethod, unlockMethod, setMethod, addMethod, removeMethod, resetKeyMethod, placeOf, isObject, isSubscribing, hasMethod}
 use Rattle.objects.specs.Tests.{isForbidden, isMalformed, entryOf, isStrange, isEmitterBad, isMuteValue, isValueBad}
 use Rattle.objects.specs.Answers.{failedOf}
 use Rattle.holders.specs.Holders.{ownerOf, holderObeys, sweptHolder}
 use Rattle.holders.proofs.Keeps.{holders-kept}
-use Rattle.device.specs.State.{freshOf, withConnections, withSubscriptions, withHolders, openOf, sweepOf, closeOf, atConnection, heardAt, sentAt, toldAt, beatingAt}
+use Rattle.device.specs.State.{freshOf, withConnections, withSubscriptions, withHolders, withMechanism, openOf, sweepOf, closeOf, atConnection, heardAt, sentAt, toldAt, beatingAt}
 use Rattle.device.specs.Rules.{deviceObeys}
 use Rattle.device.specs.Time.{stepOf, advanced, tickBy, tickOf}
 use Rattle.device.specs.Run.{holderAt, muteAt, isHeldByOther, isSubscribed, isOutOfTurn, statusOf, mutedOf, doneOf, answerOf, unchanged, ranBy, runOf}
@@ -50,11 +54,13 @@ pub record Obeys (d : Device) : Type 0 where
   pub pairs : allPairs apart (d .subscriptions) ≡ true
   pub mutes : all isMuteValue (d .mutes) ≡ true
   pub holders : all (holderObeys (d .connections)) (d .holders) ≡ true
+  pub mechanism : mechanismObeys (d .mechanism) ≡ true
 
 pub obeys-are : (d : Device) → deviceObeys d ≡ true → Obeys d
 unfolding deviceObeys
 obeys-are d h =
-    let h4 = and-left _ (all (holderObeys (d .connections)) (d .holders)) h in
+    let h5 = and-left _ (mechanismObeys (d .mechanism)) h in
+    let h4 = and-left _ (all (holderObeys (d .connections)) (d .holders)) h5 in
     let h3 = and-left _ (all isMuteValue (d .mutes)) h4 in
     let h2 = and-left _ (allPairs apart (d .subscriptions)) h3 in
     record {
@@ -62,12 +68,13 @@ obeys-are d h =
       entries = and-right (all connectionObeys (d .connections)) _ h2;
       pairs = and-right (all connectionObeys (d .connections) && all (entryObeys (d .connections)) (d .subscriptions)) _ h3;
       mutes = and-right (all connectionObeys (d .connections) && all (entryObeys (d .connections)) (d .subscriptions) && allPairs apart (d .subscriptions)) _ h4;
-      holders = and-right (all connectionObeys (d .connections) && all (entryObeys (d .connections)) (d .subscriptions) && allPairs apart (d .subscriptions) && all isMuteValue (d .mutes)) _ h;
+      holders = and-right (all connectionObeys (d .connections) && all (entryObeys (d .connections)) (d .subscriptions) && allPairs apart (d .subscriptions) && all isMuteValue (d .mutes)) _ h5;
+      mechanism = and-right (all connectionObeys (d .connections) && all (entryObeys (d .connections)) (d .subscriptions) && allPairs apart (d .subscriptions) && all isMuteValue (d .mutes) && all (holderObeys (d .connections)) (d .holders)) _ h;
     }
 
 are-obeys : (d : Device) → Obeys d → deviceObeys d ≡ true
 unfolding deviceObeys
-are-obeys d o = rw (o .connections, o .entries, o .pairs, o .mutes, o .holders)
+are-obeys d o = rw (o .connections, o .entries, o .pairs, o .mutes, o .holders, o .mechanism)
 
 -- ---- fresh
 fresh : (reading : ℕ) → deviceObeys (freshOf reading) ≡ true
@@ -80,6 +87,7 @@ fresh reading =
       pairs = rw (entries-kept .freed-apart free);
       mutes = refl;
       holders = rw (holders-kept .unheld (freshOf reading .connections));
+      mechanism = mechanism-kept .rest;
     })
 
 -- ---- connections that change and none that closes
@@ -93,6 +101,7 @@ same-connections d cs c k h =
       pairs = o .pairs;
       mutes = o .mutes;
       holders = all-weaken _ _ (holders-kept .standing (d .connections) cs k) (d .holders) (o .holders);
+      mechanism = o .mechanism;
     })
 
 -- a connection put at n that is open wherever one was
@@ -176,6 +185,7 @@ sweep-keeps d reading cs h k =
       pairs = pairs-map apart (sweptOf cs) (entries-kept .sweeping-apart cs) (d .subscriptions) (o .pairs);
       mutes = o .mutes;
       holders = all-map _ _ (sweptHolder cs) (λ (x : ℕ) (p : holderObeys (d .connections) x ≡ true). holders-kept .sweeping cs x) (d .holders) (o .holders);
+      mechanism = o .mechanism;
     })
 
 closing : (d : Device) (n : ℕ) → deviceObeys d ≡ true → deviceObeys (closeOf d n) ≡ true
@@ -244,6 +254,20 @@ with-holders d k v r h =
       pairs = o .pairs;
       mutes = o .mutes;
       holders = all-set (holderObeys (d .connections)) (d .holders) k v (o .holders) r;
+      mechanism = o .mechanism;
+    })
+
+with-mechanism : (d : Device) (m : Mechanism) → mechanismObeys m ≡ true → deviceObeys d ≡ true → deviceObeys (withMechanism d m) ≡ true
+with-mechanism d m r h =
+    let o = obeys-are d h in
+    are-obeys (withMechanism d m)
+    (record {
+      connections = o .connections;
+      entries = o .entries;
+      pairs = o .pairs;
+      mutes = o .mutes;
+      holders = o .holders;
+      mechanism = r;
     })
 
 with-entry : (d : Device) (k : ℕ) (s : Subscription) → entryObeys (d .connections) s ≡ true → all (apart s) (d .subscriptions) ≡ true → deviceObeys d ≡ true → deviceObeys (withSubscriptions d (set (d .subscriptions) k s)) ≡ true
@@ -256,6 +280,7 @@ with-entry d k s r a h =
       pairs = pairs-set apart (entries-kept .even) (d .subscriptions) k s (o .pairs) a;
       mutes = o .mutes;
       holders = o .holders;
+      mechanism = o .mechanism;
     })
 
 -- an entry told stands where it stood
@@ -274,6 +299,7 @@ telling d at h =
       pairs = pairs-like apart (d .subscriptions) at (toldOf s) free (entries-kept .telling-left s) (λ (x : Subscription). entries-kept .telling-right x s) ∙ o .pairs;
       mutes = o .mutes;
       holders = o .holders;
+      mechanism = o .mechanism;
     })
 
 set-keeps : (d : Device) (target v : ℕ) → isMuteValue v ≡ true → deviceObeys d ≡ true → deviceObeys (mutedOf d target v) ≡ true
@@ -291,6 +317,7 @@ set-keeps d target v r h = go (eqb (muteAt d target) v)
           subscriptions = map (markedOf target) (d .subscriptions);
           mutes = set (d .mutes) (placeOf target) v;
           holders = d .holders;
+          mechanism = d .mechanism;
         }
 
     go : (t : Bool) → deviceObeys (cond t d changed) ≡ true
@@ -303,14 +330,23 @@ set-keeps d target v r h = go (eqb (muteAt d target) v)
           pairs = pairs-map apart (markedOf target) (entries-kept .marking-apart target) (d .subscriptions) (o .pairs);
           mutes = all-set isMuteValue (d .mutes) (placeOf target) v (o .mutes) r;
           holders = o .holders;
+          mechanism = o .mechanism;
         })
 
 -- the value of a set that passed
 value-right : (m : ℕ) (part : List ℕ) → isValueBad m part ≡ false → eqb m setMethod ≡ true → isMuteValue (getD part 0 0) ≡ true
 unfolding isValueBad
 value-right m part v e =
-    let k = or-neither (eqb m addMethod && not (eqb (getD part 20 0) 1)) (eqb m setMethod && not (isMuteValue (getD part 0 0))) v .1 in
+    let j = or-neither ((eqb m addMethod && not (eqb (getD part 20 0) 1)) || (eqb m setMethod && not (isMuteValue (getD part 0 0)))) _ v .0 in
+    let k = or-neither (eqb m addMethod && not (eqb (getD part 20 0) 1)) _ j .1 in
     not-false _ (rw e at k)
+
+-- the text and the port of an arming that passed
+arming-right : (m : ℕ) (part : List ℕ) → isValueBad m part ≡ false → eqb m resetKeyMethod ≡ true → isUntaken part ≡ false
+unfolding isValueBad
+arming-right m part v e =
+    let k = or-neither ((eqb m addMethod && not (eqb (getD part 20 0) 1)) || (eqb m setMethod && not (isMuteValue (getD part 0 0)))) _ v .1 in
+    rw e at k
 
 -- the entry of an add that passed
 entry-right : (d : Device) (n target m : ℕ) (part : List ℕ) → liveAt (d .connections) n ≡ true → Passed d n target m part → eqb m addMethod ≡ true → entryObeys (d .connections) (entryOf n part) ≡ true
@@ -331,6 +367,9 @@ done-keeps : (d : Device) (n target m : ℕ) (part : List ℕ) → liveAt (d .co
 unfolding doneOf
 done-keeps d n target m part l p h = lock (eqb m lockMethod)
   where
+    armed : Device
+    armed = withMechanism d (armedBy part)
+
     removed : Device
     removed = withSubscriptions d (set (d .subscriptions) (twinAt (entryOf n part) (d .subscriptions)) free)
 
@@ -346,23 +385,27 @@ done-keeps d n target m part l p h = lock (eqb m lockMethod)
     locked : Device
     locked = withHolders d (set (d .holders) (placeOf target) (ownerOf n))
 
-    remove : (t : Bool) → deviceObeys (cond t removed d) ≡ true
-    remove true = with-entry d _ free (entries-kept .freed (d .connections)) (all-true (apart free) (entries-kept .freed-apart) (d .subscriptions)) h
-    remove false = h
+    arm : (t : Bool) → eqb m resetKeyMethod ≡ t → deviceObeys (cond t armed d) ≡ true
+    arm true e = with-mechanism d (armedBy part) (mechanism-kept .arming part (arming-right m part (p .value) e)) h
+    arm false e = h
 
-    add : (t : Bool) → eqb m addMethod ≡ t → deviceObeys (cond t added (cond (eqb m removeMethod) removed d)) ≡ true
+    remove : (t : Bool) → deviceObeys (cond t removed (cond (eqb m resetKeyMethod) armed d)) ≡ true
+    remove true = with-entry d _ free (entries-kept .freed (d .connections)) (all-true (apart free) (entries-kept .freed-apart) (d .subscriptions)) h
+    remove false = arm (eqb m resetKeyMethod) refl
+
+    add : (t : Bool) → eqb m addMethod ≡ t → deviceObeys (cond t added (cond (eqb m removeMethod) removed (cond (eqb m resetKeyMethod) armed d))) ≡ true
     add true e = with-entry d _ (entryOf n part) (entry-right d n target m part l p e) (entry-apart d n target m part p e) h
     add false e = remove (eqb m removeMethod)
 
-    mute : (t : Bool) → eqb m setMethod ≡ t → deviceObeys (cond t muted (cond (eqb m addMethod) added (cond (eqb m removeMethod) removed d))) ≡ true
+    mute : (t : Bool) → eqb m setMethod ≡ t → deviceObeys (cond t muted (cond (eqb m addMethod) added (cond (eqb m removeMethod) removed (cond (eqb m resetKeyMethod) armed d)))) ≡ true
     mute true e = set-keeps d target (getD part 0 0) (value-right m part (p .value) e) h
     mute false e = add (eqb m addMethod) refl
 
-    unlock : (t : Bool) → deviceObeys (cond t unlocked (cond (eqb m setMethod) muted (cond (eqb m addMethod) added (cond (eqb m removeMethod) removed d)))) ≡ true
+    unlock : (t : Bool) → deviceObeys (cond t unlocked (cond (eqb m setMethod) muted (cond (eqb m addMethod) added (cond (eqb m removeMethod) removed (cond (eqb m resetKeyMethod) armed d))))) ≡ true
     unlock true = with-holders d _ 0 (holders-kept .unheld (d .connections)) h
     unlock false = mute (eqb m setMethod) refl
 
-    lock : (t : Bool) → deviceObeys (cond t locked (cond (eqb m unlockMethod) unlocked (cond (eqb m setMethod) muted (cond (eqb m addMethod) added (cond (eqb m removeMethod) removed d))))) ≡ true
+    lock : (t : Bool) → deviceObeys (cond t locked (cond (eqb m unlockMethod) unlocked (cond (eqb m setMethod) muted (cond (eqb m addMethod) added (cond (eqb m removeMethod) removed (cond (eqb m resetKeyMethod) armed d)))))) ≡ true
     lock true = with-holders d _ (ownerOf n) (holders-kept .owning (d .connections) n l) h
     lock false = unlock (eqb m unlockMethod)
 

@@ -9,9 +9,10 @@ use lib.Dec.{eqb}
 use lib.ListN.{length, getD}
 use Rattle.laws.proofs.Parts.{nil-of}
 use Rattle.laws.proofs.Tables.{or-neither}
+use Rattle.mechanism.specs.Arguments.{isMisfit}
 use Rattle.subscription.specs.State.{isMute}
 use Rattle.objects.specs.Methods.{classMethod, lockableMethod, lockMethod, unlockMethod, getMethod, setMethod, addMethod, removeMethod, resetKeyMethod, placeOf, isManager, isObject, isTelling, isLocking, isMuting, isSubscribing, hasMethod}
-use Rattle.objects.specs.Tests.{isForbidden, countOf, lengthOf, isPairBad, isMalformed, isEmitterBad, isValueBad, firstStatus, Allowed}
+use Rattle.objects.specs.Tests.{isForbidden, countOf, lengthOf, isLengthBad, isPairBad, isMalformed, isEmitterBad, isValueBad, firstStatus, Allowed}
 use Rattle.objects.specs.Answers.{failedOf}
 use Rattle.objects.specs.declared.Answer.{Answer}
 use Rattle.objects.proofs.Shapes.{mute-at, formed-are, first-allowed}
@@ -23,11 +24,14 @@ use Rattle.device.proofs.Commands.{ran-failed, ran-done, get-status}
 -- ---- lengths
 pub add-size : (part : List ℕ) → isMalformed addMethod 5 part ≡ false → length part ≡ 23
 unfolding lengthOf
-add-size part f = formed-are addMethod 5 part f .size
+add-size part f = formed-are addMethod 5 part f .size refl
 
 pub remove-size : (part : List ℕ) → isMalformed removeMethod 2 part ≡ false → length part ≡ 16
 unfolding lengthOf
-remove-size part f = formed-are removeMethod 2 part f .size
+remove-size part f = formed-are removeMethod 2 part f .size refl
+
+pub arm-fits : (part : List ℕ) → isMalformed resetKeyMethod 2 part ≡ false → isMisfit part ≡ false
+arm-fits part f = formed-are resetKeyMethod 2 part f .fit refl
 
 one-of : (part : List ℕ) → length part ≡ 1 → part ≡ getD part 0 0 ∷ []
 one-of [] e = absurd (omega arith)
@@ -36,35 +40,39 @@ one-of (x ∷ l) e = ap (λ (k : List ℕ). x ∷ k) (nil-of l (omega arith))
 -- ---- the same command, by its method's name
 module _ (d : Device) (n t m : ℕ) (part : List ℕ) (r : Ran) (f : isMalformed m (countOf m) part ≡ false) where
   -- a method that takes nothing
-  as-none : (k : ℕ) → countOf k ≡ 0 → lengthOf k ≡ 0 → m ≡ k → r ≡ runOf d n t k 0 [] → r ≡ runOf d n t m (countOf m) part
-  as-none k c0 l0 e q =
-      let z : length part ≡ 0 = formed-are m (countOf m) part f .size ∙ ap lengthOf e ∙ l0 in
+  as-none : (k : ℕ) → eqb k resetKeyMethod ≡ false → countOf k ≡ 0 → lengthOf k ≡ 0 → m ≡ k → r ≡ runOf d n t k 0 [] → r ≡ runOf d n t m (countOf m) part
+  as-none k w c0 l0 e q =
+      let z : length part ≡ 0 = formed-are m (countOf m) part f .size (ap (λ (j : ℕ). eqb j resetKeyMethod) e ∙ w) ∙ ap lengthOf e ∙ l0 in
       rw (nil-of part z, e, c0) q
 
   as-lock : m ≡ lockMethod → r ≡ runOf d n t lockMethod 0 [] → r ≡ runOf d n t m (countOf m) part
   unfolding countOf lengthOf
-  as-lock e q = as-none lockMethod refl refl e q
+  as-lock e q = as-none lockMethod refl refl refl e q
 
   as-unlock : m ≡ unlockMethod → r ≡ runOf d n t unlockMethod 0 [] → r ≡ runOf d n t m (countOf m) part
   unfolding countOf lengthOf
-  as-unlock e q = as-none unlockMethod refl refl e q
+  as-unlock e q = as-none unlockMethod refl refl refl e q
 
   -- a command that only tells, with status 0
-  as-told : (k : ℕ) → countOf k ≡ 0 → lengthOf k ≡ 0 → doneOf d n t k [] ≡ d → statusOf d n t k 0 [] ≡ 0 → m ≡ k → r ≡ unchanged d (answerOf d t k) → r ≡ runOf d n t m (countOf m) part
-  as-told k c0 l0 g s e q =
-      as-none k c0 l0 e (q ∙ ap (λ (x : Device). unchanged x (answerOf d t k)) (sym g) ∙ ran-done d n t k 0 [] s)
+  as-told : (k : ℕ) → eqb k resetKeyMethod ≡ false → countOf k ≡ 0 → lengthOf k ≡ 0 → doneOf d n t k [] ≡ d → statusOf d n t k 0 [] ≡ 0 → m ≡ k → r ≡ unchanged d (answerOf d t k) → r ≡ runOf d n t m (countOf m) part
+  as-told k w c0 l0 g s e q =
+      as-none k w c0 l0 e (q ∙ ap (λ (x : Device). unchanged x (answerOf d t k)) (sym g) ∙ ran-done d n t k 0 [] s)
 
   as-class : isObject t ≡ true → m ≡ classMethod → r ≡ unchanged d (answerOf d t classMethod) → r ≡ runOf d n t m (countOf m) part
-  unfolding countOf lengthOf doneOf statusOf hasMethod isTelling isLocking isForbidden isMalformed isPairBad isHeldByOther isEmitterBad isSubscribing isValueBad isOutOfTurn isFull
-  as-class o e q = as-told classMethod refl refl refl (rw o) e q
+  unfolding countOf lengthOf doneOf statusOf hasMethod isTelling isLocking isForbidden isMalformed isLengthBad isPairBad isHeldByOther isEmitterBad isSubscribing isValueBad isOutOfTurn isFull
+  as-class o e q = as-told classMethod refl refl refl refl (rw o) e q
 
   as-lockable : isObject t ≡ true → m ≡ lockableMethod → r ≡ unchanged d (answerOf d t lockableMethod) → r ≡ runOf d n t m (countOf m) part
-  unfolding countOf lengthOf doneOf statusOf hasMethod isTelling isLocking isForbidden isMalformed isPairBad isHeldByOther isEmitterBad isSubscribing isValueBad isOutOfTurn isFull
-  as-lockable o e q = as-told lockableMethod refl refl refl (rw o) e q
+  unfolding countOf lengthOf doneOf statusOf hasMethod isTelling isLocking isForbidden isMalformed isLengthBad isPairBad isHeldByOther isEmitterBad isSubscribing isValueBad isOutOfTurn isFull
+  as-lockable o e q = as-told lockableMethod refl refl refl refl (rw o) e q
 
   as-add : m ≡ addMethod → r ≡ runOf d n t addMethod 5 part → r ≡ runOf d n t m (countOf m) part
   unfolding countOf
   as-add e q = rw e q
+
+  as-arm : m ≡ resetKeyMethod → r ≡ runOf d n t resetKeyMethod 2 part → r ≡ runOf d n t m (countOf m) part
+  unfolding countOf
+  as-arm e q = rw e q
 
   as-remove : m ≡ removeMethod → r ≡ runOf d n t removeMethod 2 part → r ≡ runOf d n t m (countOf m) part
   unfolding countOf
@@ -72,10 +80,10 @@ module _ (d : Device) (n t m : ℕ) (part : List ℕ) (r : Ran) (f : isMalformed
 
 as-get : (d : Device) (n at m : ℕ) (part : List ℕ) (r : Ran) → at < 8 → isMalformed m (countOf m) part ≡ false → m ≡ getMethod → r ≡ unchanged d (answerOf d (4097 + at) getMethod) → r ≡ runOf d n (4097 + at) m (countOf m) part
 unfolding countOf lengthOf doneOf
-as-get d n at m part r h f e q = as-told d n (4097 + at) m part r f getMethod refl refl refl (get-status d n at h) e q
+as-get d n at m part r h f e q = as-told d n (4097 + at) m part r f getMethod refl refl refl refl (get-status d n at h) e q
 
 -- ---- what is left when other methods are not
-target-is : (t at : ℕ) → isMute t ≡ true → at ≡ placeOf t → 4097 + at ≡ t
+pub target-is : (t at : ℕ) → isMute t ≡ true → at ≡ placeOf t → 4097 + at ≡ t
 unfolding placeOf
 target-is t at h e = omega (arith, mute-at t h)
 
@@ -95,6 +103,11 @@ add-at t h = eqb-true t 4 (simp or-false at h)
 remove-at : (t : ℕ) → hasMethod t removeMethod ≡ true → t ≡ 4
 unfolding hasMethod isTelling isLocking isMuting isSubscribing
 remove-at t h = eqb-true t 4 (simp or-false at h)
+
+-- 3.14 is the device manager's
+arm-at : (t : ℕ) → hasMethod t resetKeyMethod ≡ true → t ≡ 1
+unfolding hasMethod isTelling isLocking isMuting isSubscribing
+arm-at t h = eqb-true t 1 h
 
 -- a method that is locked out of a manager, or a mute's only
 mute-of : (locking muting manager mute : Bool) → (locking || (muting && mute)) ≡ true → (locking && manager) ≡ false → (manager || mute) ≡ true → mute ≡ true
@@ -117,24 +130,26 @@ module _ (t k count : ℕ) (part : List ℕ) (s : ℕ) (es : s ≡ firstStatus t
   unfolding countOf
   remove-formed e = rw e at (passed .formed)
 
-  module _ (c : k ≡ classMethod → ⊥) (l : k ≡ lockableMethod → ⊥) (a : k ≡ addMethod → ⊥) (r : k ≡ removeMethod → ⊥) where
+  pub arm-formed : k ≡ resetKeyMethod → isMalformed resetKeyMethod 2 part ≡ false
+  unfolding countOf
+  arm-formed e = rw e at (passed .formed)
+
+  module _ (c : k ≡ classMethod → ⊥) (l : k ≡ lockableMethod → ⊥) (a : k ≡ addMethod → ⊥) (r : k ≡ removeMethod → ⊥) (y : k ≡ resetKeyMethod → ⊥) where
     pub mute-left : isMute t ≡ true
     unfolding hasMethod isForbidden isObject
     mute-left =
-        let reset = or-neither (eqb k resetKeyMethod) (isLocking k && isManager t) (passed .allowed) in
-        let method : (isLocking k || (isMuting k && isMute t)) ≡ true = simp (telling-not k c l, subscribing-not k a r, reset .0, or-false) at (passed .method) in
-        mute-of (isLocking k) (isMuting k) (isManager t) (isMute t) method (reset .1) (passed .object)
+        let method : (isLocking k || (isMuting k && isMute t)) ≡ true = simp (telling-not k c l, subscribing-not k a r, ne-eqb k resetKeyMethod y, or-false) at (passed .method) in
+        mute-of (isLocking k) (isMuting k) (isManager t) (isMute t) method (passed .allowed) (passed .object)
 
     module _ (f : k ≡ lockMethod → ⊥) (u : k ≡ unlockMethod → ⊥) (g : k ≡ getMethod → ⊥) where
       set-left : k ≡ setMethod
       unfolding hasMethod isForbidden isLocking isMuting
       set-left =
-          let reset = or-neither (eqb k resetKeyMethod) (isLocking k && isManager t) (passed .allowed) in
           eqb-true k setMethod
           (simp (
             telling-not k c l,
             subscribing-not k a r,
-            reset .0,
+            ne-eqb k resetKeyMethod y,
             mute-left,
             ne-eqb k lockMethod f,
             ne-eqb k unlockMethod u,
@@ -146,7 +161,7 @@ module _ (t k count : ℕ) (part : List ℕ) (s : ℕ) (es : s ≡ firstStatus t
 
       pub set-size : length part ≡ 1
       unfolding lengthOf
-      set-size = rw set-left at (formed-are k (countOf k) part (passed .formed) .size)
+      set-size = rw set-left at (formed-are k (countOf k) part (passed .formed) .size (ne-eqb k resetKeyMethod y))
 
 -- what stops a command is its status, whatever would come after
 first-stops : (a b c e : Bool) (x s : ℕ) → s ≡ cond a 5 (cond b 11 (cond c 8 (cond e 4 0))) → (s ≡ 0 → ⊥) → cond a 5 (cond b 11 (cond c 8 (cond e 4 x))) ≡ s
@@ -189,10 +204,15 @@ module _ (d : Device) (n t m count : ℕ) (part : List ℕ) (k : ℕ) (ek : k �
         let u : t ≡ 4 = remove-at t (ap (hasMethod t) (sym e) ∙ allowed .method) in
         as-run o (as-remove d n t k part o (allowed .formed) e (q ∙ ap (λ (j : ℕ). runOf d n j removeMethod 2 part) (sym u)))
 
-    module _ (c : k ≡ classMethod → ⊥) (l : k ≡ lockableMethod → ⊥) (a : k ≡ addMethod → ⊥) (r : k ≡ removeMethod → ⊥) (at : ℕ) (p : (at ≡ placeOf t) × (at < 8)) where
+    pub run-arm : k ≡ resetKeyMethod → (o : Ran) → ((j : ℕ) → o ≡ runOf d j 1 resetKeyMethod 2 part) → o ≡ runOf d n t m count part
+    run-arm e o q =
+        let u : t ≡ 1 = arm-at t (ap (hasMethod t) (sym e) ∙ allowed .method) in
+        as-run o (as-arm d n t k part o (allowed .formed) e (q n ∙ ap (λ (j : ℕ). runOf d n j resetKeyMethod 2 part) (sym u)))
+
+    module _ (c : k ≡ classMethod → ⊥) (l : k ≡ lockableMethod → ⊥) (a : k ≡ addMethod → ⊥) (r : k ≡ removeMethod → ⊥) (y : k ≡ resetKeyMethod → ⊥) (at : ℕ) (p : (at ≡ placeOf t) × (at < 8)) where
       as-mute : (o : Ran) → o ≡ runOf d n (4097 + at) k (countOf k) part → o ≡ runOf d n t m count part
       as-mute o q =
-          let here = target-is t at (mute-left t k count part s es z c l a r) (p .0) in
+          let here = target-is t at (mute-left t k count part s es z c l a r y) (p .0) in
           as-run o (q ∙ ap (λ (j : ℕ). runOf d n j k (countOf k) part) here)
 
       pub run-lock : k ≡ lockMethod → (o : Ran) → o ≡ runOf d n (4097 + at) lockMethod 0 [] → o ≡ runOf d n t m count part
@@ -207,6 +227,6 @@ module _ (d : Device) (n t m count : ℕ) (part : List ℕ) (k : ℕ) (ek : k �
       pub run-set : (k ≡ lockMethod → ⊥) → (k ≡ unlockMethod → ⊥) → (k ≡ getMethod → ⊥) → (o : Ran) → o ≡ runOf d n (4097 + at) setMethod 1 (getD part 0 0 ∷ []) → o ≡ runOf d n t m count part
       unfolding countOf
       run-set f u g o q =
-          let e = set-left t k count part s es z c l a r f u g in
-          let w = one-of part (set-size t k count part s es z c l a r f u g) in
+          let e = set-left t k count part s es z c l a r y f u g in
+          let w = one-of part (set-size t k count part s es z c l a r y f u g) in
           as-mute o (rw e (q ∙ ap (λ (y : List ℕ). runOf d n (4097 + at) setMethod 1 y) (sym w)))

@@ -98,7 +98,7 @@ module _ (d : Device) (n : ℕ) (q : n ≡ lowestFree (d .connections)) (e : len
   open-done h = rw (any-index isFree (d .connections), ← q, e, lt-ltb n 8 h)
 
 -- ---- sweeping
-pub swept-all : (d : Device) (ss : List Subscription) (hs : List ℕ) → ss ≡ map (sweptOf (d .connections)) (d .subscriptions) → hs ≡ map (sweptHolder (d .connections)) (d .holders) → _≡_ {A = Device} (record { reading = d .reading; connections = d .connections; subscriptions = ss; mutes = d .mutes; holders = hs }) (sweepOf d)
+pub swept-all : (d : Device) (ss : List Subscription) (hs : List ℕ) → ss ≡ map (sweptOf (d .connections)) (d .subscriptions) → hs ≡ map (sweptHolder (d .connections)) (d .holders) → _≡_ {A = Device} (record { reading = d .reading; connections = d .connections; subscriptions = ss; mutes = d .mutes; holders = hs; mechanism = d .mechanism }) (sweepOf d)
 unfolding sweepOf
 swept-all d ss hs p q = rw (p, q)
 

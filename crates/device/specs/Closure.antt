@@ -59,6 +59,7 @@ freedOf d n =
       subscriptions = map (λ (s : Subscription). cond (isEntryOf n s) free s) (d .subscriptions);
       mutes = d .mutes;
       holders = map (λ (h : ℕ). cond (isLockOf n h) 0 h) (d .holders);
+      mechanism = d .mechanism;
     }
 
 pub record ClosureFrees : Type 0 where

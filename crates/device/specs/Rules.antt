@@ -1,6 +1,8 @@
--- The record rules of a device: document 01 'What calls refuse', "Record rules", all but those of the undecided bytes.
+-- The record rules of a device: document 01 'What calls refuse', "Record rules", all but those of the undecided bytes; document 02
+-- (ii), of the mechanism.
 use mathlib.Core.Bool.{Bool, _&&_}
 use Rattle.laws.specs.Lists.{all, allPairs}
+use Rattle.mechanism.specs.Rules.{mechanismObeys}
 use Rattle.connection.specs.Rules.{connectionObeys}
 use Rattle.subscription.specs.Rules.{entryObeys, apart}
 use Rattle.objects.specs.Tests.{isMuteValue}
@@ -9,4 +11,4 @@ use Rattle.device.specs.declared.Device.{Device}
 
 unfoldable pub deviceObeys : Device → Bool
 deviceObeys d =
-    all connectionObeys (d .connections) && all (entryObeys (d .connections)) (d .subscriptions) && allPairs apart (d .subscriptions) && all isMuteValue (d .mutes) && all (holderObeys (d .connections)) (d .holders)
+    all connectionObeys (d .connections) && all (entryObeys (d .connections)) (d .subscriptions) && allPairs apart (d .subscriptions) && all isMuteValue (d .mutes) && all (holderObeys (d .connections)) (d .holders) && mechanismObeys (d .mechanism)

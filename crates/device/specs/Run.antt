@@ -5,13 +5,14 @@ use mathlib.Core.List.{List, map}
 use lib.Dec.{eqb}
 use lib.ListN.{getD, set}
 use Rattle.laws.specs.Lists.{any}
+use Rattle.mechanism.specs.Arguments.{armedBy}
 use Rattle.subscription.specs.State.{free, isUnused, isTwin, twinAt, lowestUnused, markedOf}
-use Rattle.objects.specs.Methods.{lockMethod, unlockMethod, setMethod, addMethod, removeMethod, placeOf, isObject, isLocking, hasMethod}
+use Rattle.objects.specs.Methods.{lockMethod, unlockMethod, setMethod, addMethod, removeMethod, resetKeyMethod, placeOf, isObject, isLocking, hasMethod}
 use Rattle.objects.specs.Tests.{isForbidden, isMalformed, entryOf, isEmitterBad, isValueBad}
 use Rattle.objects.specs.Answers.{replyOf, failedOf, toldOf}
 use Rattle.objects.specs.declared.Answer.{Answer}
 use Rattle.holders.specs.Holders.{ownerOf, isOther}
-use Rattle.device.specs.State.{withSubscriptions, withHolders}
+use Rattle.device.specs.State.{withSubscriptions, withHolders, withMechanism}
 use Rattle.device.specs.declared.Device.{Device}
 use Rattle.device.specs.declared.Ran.{Ran}
 
@@ -63,9 +64,10 @@ mutedOf d target v =
       subscriptions = map (markedOf target) (d .subscriptions);
       mutes = set (d .mutes) (placeOf target) v;
       holders = d .holders;
+      mechanism = d .mechanism;
     })
 
--- what a command with status 0 does; "it gets the lowest free entry"
+-- what a command with status 0 does; "it gets the lowest free entry"; document 02 (ii), "The latest key counts"
 unfoldable pub doneOf : Device → ℕ → ℕ → ℕ → List ℕ → Device
 doneOf d n target m part =
     cond (eqb m lockMethod) (withHolders d (set (d .holders) (placeOf target) (ownerOf n)))
@@ -73,7 +75,8 @@ doneOf d n target m part =
     (cond (eqb m setMethod) (mutedOf d target (getD part 0 0))
     (cond (eqb m addMethod) (withSubscriptions d (set (d .subscriptions) (lowestUnused (d .subscriptions)) (entryOf n part)))
     (cond (eqb m removeMethod) (withSubscriptions d (set (d .subscriptions) (twinAt (entryOf n part) (d .subscriptions)) free))
-    d))))
+    (cond (eqb m resetKeyMethod) (withMechanism d (armedBy part))
+    d)))))
 
 -- the reply to a command with status 0
 unfoldable pub answerOf : Device → ℕ → ℕ → Answer

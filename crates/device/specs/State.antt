@@ -8,6 +8,8 @@ use Rattle.heartbeat.specs.declared.Heartbeat.{Heartbeat}
 use Rattle.connection.specs.State.{connectionCount, closed, opened, liveAt, isFree, lowestFree}
 use Rattle.connection.specs.Supervision.{heardOf, sentOf, beatingOf}
 use Rattle.connection.specs.declared.Connection.{Connection}
+use Rattle.mechanism.specs.State.{disarmed}
+use Rattle.mechanism.specs.declared.Mechanism.{Mechanism}
 use Rattle.subscription.specs.State.{entryCount, free, toldOf, sweptOf}
 use Rattle.subscription.specs.declared.Subscription.{Subscription}
 use Rattle.objects.specs.Tests.{unmuted}
@@ -20,7 +22,7 @@ use Rattle.device.specs.declared.Opening.the-variants.{Number, Full}
 abbrev pub muteCount : ℕ
 muteCount = 8
 
--- "Fresh takes a first reading": "every connection closed, no lock and every entry free"
+-- "Fresh takes a first reading": "every connection closed, no lock and every entry free"; document 02 (ii), "the mechanism disarmed"
 unfoldable pub freshOf : ℕ → Device
 freshOf reading =
     record {
@@ -29,20 +31,25 @@ freshOf reading =
       subscriptions = replicate entryCount free;
       mutes = replicate muteCount unmuted;
       holders = replicate muteCount 0;
+      mechanism = disarmed;
     }
 
 -- a device with one part changed
 abbrev pub withConnections : Device → List Connection → Device
 withConnections d cs =
-    record { reading = d .reading; connections = cs; subscriptions = d .subscriptions; mutes = d .mutes; holders = d .holders }
+    record { reading = d .reading; connections = cs; subscriptions = d .subscriptions; mutes = d .mutes; holders = d .holders; mechanism = d .mechanism }
 
 abbrev pub withSubscriptions : Device → List Subscription → Device
 withSubscriptions d ss =
-    record { reading = d .reading; connections = d .connections; subscriptions = ss; mutes = d .mutes; holders = d .holders }
+    record { reading = d .reading; connections = d .connections; subscriptions = ss; mutes = d .mutes; holders = d .holders; mechanism = d .mechanism }
 
 abbrev pub withHolders : Device → List ℕ → Device
 withHolders d hs =
-    record { reading = d .reading; connections = d .connections; subscriptions = d .subscriptions; mutes = d .mutes; holders = hs }
+    record { reading = d .reading; connections = d .connections; subscriptions = d .subscriptions; mutes = d .mutes; holders = hs; mechanism = d .mechanism }
+
+abbrev pub withMechanism : Device → Mechanism → Device
+withMechanism d m =
+    record { reading = d .reading; connections = d .connections; subscriptions = d .subscriptions; mutes = d .mutes; holders = d .holders; mechanism = m }
 
 -- "Opening gives the lowest free number with all counts zero"; "TableFull: opening with 8 open"
 unfoldable pub openOf : Device → Opened
@@ -63,6 +70,7 @@ sweepOf d =
       subscriptions = map (sweptOf (d .connections)) (d .subscriptions);
       mutes = d .mutes;
       holders = map (sweptHolder (d .connections)) (d .holders);
+      mechanism = d .mechanism;
     }
 
 -- "A closure frees the connection's locks, entries and waiting marks, clears its counts"

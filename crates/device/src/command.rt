@@ -6,9 +6,9 @@ use subscription::Subscription;
 ghost use mathlib.Core.Path.{_≡_};
 ghost use mathlib.Core.Bool.{false};
 ghost use mathlib.Core.List.{[], _∷_};
-ghost use Prim.Native.Nat.{_+_, _<_};
+ghost use Prim.Native.Nat.{_+_, _<_, ℕ};
 ghost use Rattle.subscription.specs.State.{firstMute};
-ghost use Rattle.objects.specs.Methods.{methodNumber, subscriptionManager, classMethod, lockableMethod, lockMethod, unlockMethod, getMethod, setMethod, addMethod, removeMethod};
+ghost use Rattle.objects.specs.Methods.{methodNumber, deviceManager, subscriptionManager, classMethod, lockableMethod, lockMethod, unlockMethod, getMethod, setMethod, addMethod, removeMethod, resetKeyMethod};
 ghost use Rattle.objects.specs.Tests.{isMalformed};
 ghost use Rattle.device.specs.Run.{answerOf, unchanged, runOf};
 
@@ -189,6 +189,26 @@ impl Device {
         }
     }
 
+    // Whichever connection it is: the mechanism is the device's.
+    pub fn arm(mut self, part: &[u8]) -> Ran
+        requires { ⌜ isMalformed resetKeyMethod 2 (now part) ≡ false ⌝ }
+        ensures { λ r. ⌜ ((n : ℕ) → r ≡ runOf self n deviceManager resetKeyMethod 2 (now (part .entry))) ⌝ }
+    {
+        let armed = mechanism::armed_by(part);
+        if !armed.taken {
+            return Ran {
+                device: self,
+                answer: Answer::failed(objects::BAD_VALUE),
+            };
+        }
+        let mechanism = armed.mechanism;
+        self.mechanism = mechanism;
+        Ran {
+            device: self,
+            answer: Answer::done(),
+        }
+    }
+
     // One command of connection n; `part` is the message from the entry's parameters on, bounded by the entry's size.
     pub fn run(self, n: u8, target: u32, level: u16, index: u16, count: u8, part: &[u8]) -> Ran
         ensures { λ r. ⌜ r ≡ runOf self n target (methodNumber level index) count (now (part .entry)) ⌝ }
@@ -212,6 +232,9 @@ impl Device {
         }
         if m == objects::REMOVE {
             return self.unsubscribe(n, part);
+        }
+        if m == objects::RESET_KEY {
+            return self.arm(part);
         }
         let at = objects::place(target);
         if m == objects::LOCK {

@@ -1,6 +1,7 @@
-// The device's state, passed by value and handed back: its connections, subscriptions, mutes and locks.
+// The device's state, passed by value and handed back: its connections, subscriptions, mutes, locks and reset mechanism.
 use connection::Connection;
 use heartbeat::Heartbeat;
+use mechanism::Mechanism;
 use objects::Answer;
 use subscription::Subscription;
 ghost use mathlib.Core.Path.{_≡_};
@@ -22,6 +23,7 @@ pub struct Device {
     pub subscriptions: [Subscription; 32],
     pub mutes: [u8; 8],
     pub holders: [u8; 8],
+    pub mechanism: Mechanism,
 }
 
 pub enum Opening {
@@ -65,12 +67,14 @@ impl Device {
         let subscriptions = [Subscription::FREE; 32];
         let mutes = [objects::UNMUTED; 8];
         let holders = [0u8; 8];
+        let mechanism = Mechanism::DISARMED;
         Device {
             reading,
             connections,
             subscriptions,
             mutes,
             holders,
+            mechanism,
         }
     }
 
@@ -87,7 +91,9 @@ impl Device {
         let c = subscription::all_apart(subscriptions);
         let d = objects::all_mute_values(mutes);
         let e = holders::all_obey(holders, connections);
-        a & b & c & d & e
+        let mechanism = self.mechanism;
+        let f = mechanism.obeys();
+        a & b & c & d & e & f
     }
 
     // The lowest free number is opened.

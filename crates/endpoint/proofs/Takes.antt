@@ -13,6 +13,7 @@ use Rattle.laws.specs.Lists.{all, allPairs, index}
 use Rattle.laws.proofs.Conds.{and-left, and-right}
 use Rattle.laws.proofs.Loops.{all-at}
 use Rattle.laws.proofs.Tables.{or-cases, clash}
+use Rattle.mechanism.specs.Rules.{mechanismObeys}
 use Rattle.layout.specs.Message.{atFront}
 use Rattle.area.specs.Area.{heldObeys}
 use Rattle.connection.specs.State.{connectionCount, closed, liveAt, lowestDue}
@@ -66,7 +67,8 @@ device-first d x =
     let b = all (entryObeys (d .connections)) (d .subscriptions) in
     let c = allPairs apart (d .subscriptions) in
     let e = all isMuteValue (d .mutes) in
-    let y = and-left (a && b) c (and-left (a && b && c) e (and-left (a && b && c && e) (all (holderObeys (d .connections)) (d .holders)) x)) in
+    let h = all (holderObeys (d .connections)) (d .holders) in
+    let y = and-left (a && b) c (and-left (a && b && c) e (and-left (a && b && c && e) h (and-left (a && b && c && e && h) (mechanismObeys (d .mechanism)) x))) in
     (and-left a b y, and-right a b y)
 
 -- at one connection and at one entry

@@ -3,4 +3,5 @@ pub mod Numbers
 pub mod Calls
 pub mod Deliver
 pub mod Take
+pub mod Datagram
 pub mod Tell

@@ -9,7 +9,7 @@ use Rattle.reader.specs.Entry.{partOf, partStart}
 use Rattle.writer.specs.Numbers as writer
 use Rattle.writer.specs.declared.Written as answer
 use Rattle.host.specs.Numbers.{at, pairOf, deliveryOf, takingOf}
-use Rattle.host.specs.Answers.{clearedOf, openedOf, closedOf, tickedOf, deliveredOf, takenOf}
+use Rattle.host.specs.Answers.{clearedOf, openedOf, closedOf, tickedOf, deliveredOf, takenOf, resetOf}
 use Rattle.host.specs.Messages.{partFrom, writtenOf}
 use Rattle.host.specs.declared.messages.Part.{Part}
 use Rattle.host.specs.declared.messages.Written.{Written}
@@ -22,6 +22,7 @@ use Rattle.host.specs.declared.Closed.{Closed}
 use Rattle.host.specs.declared.Ticked.{Ticked}
 use Rattle.host.specs.declared.Delivered.{Delivered}
 use Rattle.host.specs.declared.Taken.{Taken}
+use Rattle.host.specs.declared.Reset.{Reset}
 
 -- the structs as the code puts them together
 abbrev clearedWith : ℕ → Cleared
@@ -42,6 +43,9 @@ deliveredWith s d =
 
 abbrev takenWith : Record → TakingNumbers → Taken
 takenWith s t = record { state = s; number = t .number; kind = t .kind; connection = t .connection; length = t .length }
+
+abbrev resetWith : Record → Pair → Reset
+resetWith s p = record { state = s; number = p .number; reset = p .value }
 
 abbrev partWith : ℕ → ℕ → Part
 partWith start length = record { start = start; length = length }
@@ -72,6 +76,10 @@ module _ (o : Outcome) (l : List ℕ) (s : Record) (a u : List ℕ) (e : outcome
   pub taken-told : (t : TakingNumbers) → t ≡ takingOf l → takenWith s t ≡ takenOf o
   unfolding takenOf takingOf
   taken-told t q = ap (takenWith s) q ∙ ap takenOf e
+
+  pub reset-told : (p : Pair) → p ≡ pairOf l → resetWith s p ≡ resetOf o
+  unfolding resetOf pairOf
+  reset-told p q = ap (resetWith s) q ∙ ap resetOf e
 
 pub cleared-told : (n : ℕ) (l m : List ℕ) → n ≡ at l 0 → l ≡ m → clearedWith n ≡ clearedOf m
 unfolding clearedOf

@@ -9,6 +9,7 @@ use Rattle.host.specs.declared.Closed.{Closed}
 use Rattle.host.specs.declared.Ticked.{Ticked}
 use Rattle.host.specs.declared.Delivered.{Delivered}
 use Rattle.host.specs.declared.Taken.{Taken}
+use Rattle.host.specs.declared.Reset.{Reset}
 
 -- "The host's close and the zeroing call answer only that they were done"
 unfoldable pub clearedOf : List ℕ → Cleared
@@ -40,3 +41,7 @@ deliveredOf o =
 -- "Take writes one message and names its connection"
 unfoldable pub takenOf : Outcome → Taken
 takenOf o = record { state = o .state; number = at (o .answer) 0; kind = at (o .answer) 1; connection = at (o .answer) 2; length = at (o .answer) 3 }
+
+-- document 02 (ii), "resets .. any other changes nothing; the answer says which"
+unfoldable pub resetOf : Outcome → Reset
+resetOf o = record { state = o .state; number = at (o .answer) 0; reset = at (o .answer) 1 }

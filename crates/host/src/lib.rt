@@ -5,7 +5,8 @@ ghost use Rattle.endpoint.specs.State.{freshState};
 ghost use Rattle.endpoint.specs.Calls.{clearAnswer, clearedArea, openCall, closeCall, tickCall};
 ghost use Rattle.endpoint.specs.Deliver.{deliverCall};
 ghost use Rattle.endpoint.specs.Take.{takeCall};
-ghost use Rattle.host.specs.Answers.{clearedOf, openedOf, closedOf, tickedOf, deliveredOf, takenOf};
+ghost use Rattle.endpoint.specs.Datagram.{datagramCall};
+ghost use Rattle.host.specs.Answers.{clearedOf, openedOf, closedOf, tickedOf, deliveredOf, takenOf, resetOf};
 
 pub mod messages;
 mod numbers;
@@ -55,6 +56,14 @@ pub struct Taken {
     pub kind: u8,
     pub connection: u8,
     pub length: usize,
+}
+
+#[repr(C)]
+pub struct Reset {
+    pub state: Record,
+    pub number: u8,
+    // 1 if the device was reset
+    pub reset: u8,
 }
 
 #[no_mangle]
@@ -157,5 +166,20 @@ pub extern "C" fn melorwyth_take(state: Record, output: &mut [u8]) -> Taken
         kind: told.kind,
         connection: told.connection,
         length: told.length,
+    }
+}
+
+#[no_mangle]
+pub extern "C" fn melorwyth_datagram(state: Record, area: &mut [u8], datagram: &[u8]) -> Reset
+    ensures { λ r. ⌜ (r ≡ resetOf (datagramCall state (now (area .entry)) (now (datagram .entry)))) × (now (area .exit) ≡ datagramCall state (now (area .entry)) (now (datagram .entry)) .area) ⌝ }
+{
+    let done = state.datagram(area, datagram);
+    let next = done.state;
+    let answer = done.answer;
+    let told = numbers::of_resetting(answer);
+    Reset {
+        state: next,
+        number: told.number,
+        reset: told.value,
     }
 }

@@ -3,10 +3,11 @@ use endpoint::Clearing;
 use endpoint::Closing;
 use endpoint::Delivery;
 use endpoint::Opening;
+use endpoint::Resetting;
 use endpoint::Taking;
 use endpoint::Ticking;
 ghost use mathlib.Core.Path.{_≡_};
-ghost use Rattle.endpoint.specs.Numbers.{clearingNumbers, openingNumbers, closingNumbers, tickingNumbers, deliveryNumbers, takingNumbers};
+ghost use Rattle.endpoint.specs.Numbers.{clearingNumbers, openingNumbers, closingNumbers, tickingNumbers, deliveryNumbers, takingNumbers, resettingNumbers};
 ghost use Rattle.host.specs.Numbers.{at, pairWith, pairOf, deliveryWith, deliveryOf, takingWith, takingOf};
 
 const BAD_RECORD: u8 = 1;
@@ -35,7 +36,12 @@ const NOTIFICATION: u8 = 1;
 
 const KEEP_ALIVE: u8 = 2;
 
-// A number, and the connection opened or the connections closed.
+// The kinds of a datagram's answer.
+const UNCHANGED: u8 = 0;
+
+const RESET: u8 = 1;
+
+// A number, and the connection opened, the connections closed, or whether there was a reset.
 pub struct Pair {
     pub number: u8,
     pub value: u8,
@@ -101,6 +107,17 @@ pub(crate) fn of_ticking(answer: Ticking) -> Pair
         Ticking::BadArea => both(BAD_AREA, 0),
         Ticking::ClockBack => both(CLOCK_BACK, 0),
         Ticking::Overrun => both(OVERRUN, 0),
+    }
+}
+
+pub(crate) fn of_resetting(answer: Resetting) -> Pair
+    ensures { λ r. ⌜ r ≡ pairOf (resettingNumbers answer) ⌝ }
+{
+    match answer {
+        Resetting::Nothing => both(0, UNCHANGED),
+        Resetting::Done => both(0, RESET),
+        Resetting::BadRecord => both(BAD_RECORD, 0),
+        Resetting::BadArea => both(BAD_AREA, 0),
     }
 }
 

@@ -1,7 +1,7 @@
 -- Arguments' counts and lengths, and a mute's place. Assumes nothing.
 use Prim.Native.Nat.{ℕ, _-_, _<_, _≤_}
 use mathlib.Core.Path.{_≡_, refl, sym, ap, _∙_}
-use mathlib.Core.Bool.{Bool, true, false, not, _&&_, _||_}
+use mathlib.Core.Bool.{Bool, true, false, not, _&&_, _||_, or-false}
 use mathlib.Core.List.{List, [], _∷_}
 use native.Mathlib.Omega.{arith}
 use borrow.Author.Tests.{leb-true, eq-eqb, ne-eqb, eqb-true, not-false}
@@ -9,10 +9,11 @@ use lib.Dec.{leb, eqb}
 use lib.ListN.{length, getD}
 use Rattle.laws.proofs.Conds.{cond-right, and-left, and-right}
 use Rattle.laws.proofs.Tables.{or-neither}
+use Rattle.mechanism.specs.Arguments.{isMisfit}
 use Rattle.subscription.specs.State.{isMute}
-use Rattle.objects.specs.Methods.{placeOf, isObject, hasMethod}
+use Rattle.objects.specs.Methods.{resetKeyMethod, placeOf, isObject, hasMethod}
 use Rattle.objects.specs.Answers.{classOf, identificationOf, toldOf}
-use Rattle.objects.specs.Tests.{isForbidden, countOf, lengthOf, isPairBad, isMalformed, firstStatus, Allowed}
+use Rattle.objects.specs.Tests.{isForbidden, countOf, lengthOf, isLengthBad, isPairBad, isMalformed, firstStatus, Allowed}
 
 -- ---- a mute
 pub record MuteAt (target : ℕ) : Type 0 where
@@ -38,30 +39,39 @@ module _ (m count : ℕ) (part : List ℕ) (k : ℕ) (q : k ≡ countOf m) where
   unfolding isMalformed
   count-bad n = rw (← q, ne-eqb count k n)
 
-  module _ (e : count ≡ k) (l : ℕ) (p : l ≡ lengthOf m) where
+  pub misfit-is : count ≡ k → m ≡ 196622 → (b : Bool) → b ≡ isMisfit part → b ≡ isMalformed m count part
+  unfolding isMalformed isLengthBad isPairBad
+  misfit-is e r b f = rw (← q, eq-eqb count k e, r, ← f, or-false)
+
+  module _ (e : count ≡ k) (r : m ≡ 196622 → ⊥) (l : ℕ) (p : l ≡ lengthOf m) where
     pub length-bad : (length part ≡ l → ⊥) → true ≡ isMalformed m count part
-    unfolding isMalformed
-    length-bad n = rw (← q, eq-eqb count k e, ← p, ne-eqb (length part) l n)
+    unfolding isMalformed isLengthBad
+    length-bad n = rw (← q, eq-eqb count k e, ne-eqb m 196622 r, ← p, ne-eqb (length part) l n)
 
     pub pair-none : length part ≡ l → (m ≡ 196609 → ⊥) → false ≡ isMalformed m count part
-    unfolding isMalformed isPairBad
-    pair-none f n = rw (← q, eq-eqb count k e, ← p, eq-eqb (length part) l f, ne-eqb m 196609 n)
+    unfolding isMalformed isLengthBad isPairBad
+    pair-none f n = rw (← q, eq-eqb count k e, ne-eqb m 196622 r, ← p, eq-eqb (length part) l f, ne-eqb m 196609 n)
 
     pub pair-is : length part ≡ l → m ≡ 196609 → not (eqb (getD part 21 0) 0 && eqb (getD part 22 0) 0) ≡ isMalformed m count part
-    unfolding isMalformed isPairBad
-    pair-is f n = rw (← q, eq-eqb count k e, ← p, eq-eqb (length part) l f, eq-eqb m 196609 n)
+    unfolding isMalformed isLengthBad isPairBad
+    pair-is f n = rw (← q, eq-eqb count k e, ne-eqb m 196622 r, ← p, eq-eqb (length part) l f, eq-eqb m 196609 n)
 
--- what a command that is not malformed has
+-- what a command that is not malformed has: 3.14 tells its own length
 pub record Formed (m count : ℕ) (part : List ℕ) : Type 0 where
   pub number : count ≡ countOf m
-  pub size : length part ≡ lengthOf m
+  pub size : eqb m resetKeyMethod ≡ false → length part ≡ lengthOf m
+  pub fit : eqb m resetKeyMethod ≡ true → isMisfit part ≡ false
 
 pub formed-are : (m count : ℕ) (part : List ℕ) → isMalformed m count part ≡ false → Formed m count part
-unfolding isMalformed
+unfolding isMalformed isLengthBad
 formed-are m count part h =
-    let e = or-neither (not (eqb count (countOf m)) || not (eqb (length part) (lengthOf m))) (isPairBad m part) h in
-    let f = or-neither (not (eqb count (countOf m))) (not (eqb (length part) (lengthOf m))) (e .0) in
-    record { number = eqb-true _ _ (not-false _ (f .0)); size = eqb-true _ _ (not-false _ (f .1)) }
+    let e = or-neither (not (eqb count (countOf m)) || isLengthBad m part) (isPairBad m part) h in
+    let f = or-neither (not (eqb count (countOf m))) (isLengthBad m part) (e .0) in
+    record {
+      number = eqb-true _ _ (not-false _ (f .0));
+      size = λ (z : eqb m resetKeyMethod ≡ false). eqb-true _ _ (not-false _ (rw z at (f .1)));
+      fit = λ (z : eqb m resetKeyMethod ≡ true). rw z at (f .1);
+    }
 
 -- ---- the first that applies of 5, 11, 8, 4
 module _ (t m count : ℕ) (part : List ℕ) (b : Bool) (q : b ≡ isObject t) where

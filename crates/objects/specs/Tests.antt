@@ -6,20 +6,26 @@ use mathlib.Core.List.{List}
 use lib.Dec.{eqb}
 use lib.ListN.{length, getD}
 use Rattle.octets.specs.Numbers.{be32At}
+use Rattle.mechanism.specs.Arguments.{isMisfit, isUntaken}
 use Rattle.subscription.specs.State.{changeEvent, isMute}
 use Rattle.subscription.specs.declared.Subscription.{Subscription}
 use Rattle.objects.specs.Methods.{setMethod, addMethod, removeMethod, resetKeyMethod, isManager, isObject, isLocking, isSubscribing, hasMethod}
 
--- "8 for 3.14, and for lock or unlock of a manager"
+-- "8 .. for lock or unlock of a manager"; document 02 (ii), "3.14 leaves status 8's list"
 unfoldable pub isForbidden : ℕ → ℕ → Bool
-isForbidden target m = eqb m resetKeyMethod || (isLocking m && isManager target)
+isForbidden target m = isLocking m && isManager target
 
--- "4.2 set (count 1, 1 byte)", "3.1 add, count 5, 23 bytes", "3.2 remove, count 2, 16 bytes", "Other methods take count 0"
+-- "4.2 set (count 1, 1 byte)", "3.1 add, count 5, 23 bytes", "3.2 remove, count 2, 16 bytes", "Other methods take count 0";
+-- document 02 (ii), "Method 3.14 .. (count 2)"
 unfoldable pub countOf : ℕ → ℕ
-countOf m = cond (eqb m setMethod) 1 (cond (eqb m addMethod) 5 (cond (eqb m removeMethod) 2 0))
+countOf m = cond (eqb m setMethod) 1 (cond (eqb m addMethod) 5 (cond (eqb m removeMethod) 2 (cond (eqb m resetKeyMethod) 2 0)))
 
 unfoldable pub lengthOf : ℕ → ℕ
 lengthOf m = cond (eqb m setMethod) 1 (cond (eqb m addMethod) 23 (cond (eqb m removeMethod) 16 0))
+
+-- "wrong .. length": that of 3.14 is told by its text length
+unfoldable pub isLengthBad : ℕ → List ℕ → Bool
+isLengthBad m part = cond (eqb m resetKeyMethod) (isMisfit part) (not (eqb (length part) (lengthOf m)))
 
 -- "a last pair other than 0, 0"
 unfoldable pub isPairBad : ℕ → List ℕ → Bool
@@ -27,7 +33,7 @@ isPairBad m part = eqb m addMethod && not (eqb (getD part 21 0) 0 && eqb (getD p
 
 -- "4 wrong count or length, or a last pair other than 0, 0"
 unfoldable pub isMalformed : ℕ → ℕ → List ℕ → Bool
-isMalformed m count part = not (eqb count (countOf m)) || not (eqb (length part) (lengthOf m)) || isPairBad m part
+isMalformed m count part = not (eqb count (countOf m)) || isLengthBad m part || isPairBad m part
 
 -- the arguments of 3.1 and 3.2: "emitter and event 8, subscriber object and method 8, context 4, mode 1"; 3.2 ends before the context
 unfoldable pub entryOf : ℕ → List ℕ → Subscription
@@ -75,9 +81,10 @@ unmuted = 2
 unfoldable pub isMuteValue : ℕ → Bool
 isMuteValue v = eqb v muted || eqb v unmuted
 
--- "7 mode not 1, or mute not 1 or 2"
+-- "7 mode not 1, or mute not 1 or 2"; document 02 (ii), "then 7 for the text or port 0"
 unfoldable pub isValueBad : ℕ → List ℕ → Bool
-isValueBad m part = (eqb m addMethod && not (eqb (getD part 20 0) 1)) || (eqb m setMethod && not (isMuteValue (getD part 0 0)))
+isValueBad m part =
+    (eqb m addMethod && not (eqb (getD part 20 0) 1)) || (eqb m setMethod && not (isMuteValue (getD part 0 0))) || (eqb m resetKeyMethod && isUntaken part)
 
 -- the first that applies of those that need no device; 0 where none does
 unfoldable pub firstStatus : ℕ → ℕ → ℕ → List ℕ → ℕ

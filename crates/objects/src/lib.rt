@@ -125,7 +125,7 @@ pub fn is_forbidden(target: u32, m: u32) -> bool
 {
     let locking = is_locking(m);
     let manager = is_manager(target);
-    (m == RESET_KEY) | (locking & manager)
+    locking & manager
 }
 
 fn count_of(m: u32) -> u8
@@ -138,6 +138,9 @@ fn count_of(m: u32) -> u8
         return 5;
     }
     if m == REMOVE {
+        return 2;
+    }
+    if m == RESET_KEY {
         return 2;
     }
     0
@@ -163,6 +166,9 @@ pub fn is_malformed(m: u32, count: u8, part: &[u8]) -> bool
 {
     if count != count_of(m) {
         return true;
+    }
+    if m == RESET_KEY {
+        return mechanism::is_misfit(part);
     }
     if part.len() != length_of(m) {
         return true;

@@ -8,12 +8,13 @@ use lib.Dec.{ltb, eqb, leb}
 use lib.ListN.{length, getD, set, length-map}
 use borrow.Author.Tests.{eqb-true, eqb-false}
 use Rattle.laws.specs.Lists.{all, mask}
+use Rattle.mechanism.specs.Datagram.{resets}
 use Rattle.area.specs.Area.{areaSound, partCleared, closedCleared, heldKept}
 use Rattle.connection.specs.State.{connectionCount, closed, liveAt, lowestDue}
 use Rattle.connection.specs.Supervision.{fitsStep, closesAt, tickedOf}
 use Rattle.frame.specs.Decide.{decide, settled}
 use Rattle.subscription.specs.State.{entryCount, lowestWaiting}
-use Rattle.device.specs.State.{openOf, closeOf, sweepOf, sentAt, toldAt}
+use Rattle.device.specs.State.{freshOf, openOf, closeOf, sweepOf, sentAt, toldAt}
 use Rattle.device.specs.Time.{stepOf, advanced, tickBy, tickOf}
 use Rattle.device.specs.declared.Device.{Device}
 use Rattle.device.specs.declared.Opening.{Opening}
@@ -21,19 +22,20 @@ use Rattle.device.specs.declared.Opening.the-variants as opens
 use Rattle.device.specs.declared.Ticking.{Ticking}
 use Rattle.device.specs.declared.Ticking.the-variants as ticks
 use Rattle.device.specs.declared.Ticked.{Ticked}
-use Rattle.stream.specs.Machine.{Call, deliver, ask, Whole, message, asked, Answer, more, refused, done, Held, put, only, whole, delivered, step}
+use Rattle.stream.specs.Machine.{Call, deliver, ask, Whole, message, asked, Answer, more, refused, done, Held, none-held, put, only, whole, delivered, step}
 use Rattle.stream.specs.Lent.{flat, counted, livesOf}
-use Rattle.stream.proofs.Lent.{put-same, put-other, set-counted, clear-flat, closed-flat, held-counted}
-use Rattle.endpoint.specs.State.{stateOf, livesIn, recordObeys, closedState}
+use Rattle.stream.proofs.Lent.{put-same, put-other, set-counted, clear-flat, closed-flat, held-counted, counted-none, flat-none}
+use Rattle.endpoint.specs.State.{stateOf, freshState, livesIn, recordObeys, closedState}
 use Rattle.endpoint.specs.Numbers.{Outcome, outcome}
 use Rattle.endpoint.specs.Calls.{openedBy, openCall, closeCall, tickedBy, tickCall}
 use Rattle.endpoint.specs.Deliver.{leastOutput, takenIn, deliverCall}
 use Rattle.endpoint.specs.Take.{entryAt, notifiedOf, sentOut, notifying, reminding, takenBy, takeCall}
+use Rattle.endpoint.specs.Datagram.{restarted, datagramCall}
 use Rattle.endpoint.specs.declared.Record.{Record}
 use Rattle.endpoint.proofs.States.{live-low}
 use Rattle.promise.specs.Rules as rules
-use Rattle.promise.specs.Rules.{Ask, opening, closing, ticking, taking, Given, given, rule, openBy, closeBy, takeBy, open?, admit, shut, Fine, callOf, toldOf}
-use Rattle.promise.proofs.Lives.{GoodAt, record-obeys, only-same, live-closed, live-gone, live-alike, lives-sent, lives-told, open-still, lives-eight}
+use Rattle.promise.specs.Rules.{Ask, opening, closing, ticking, taking, datagram, Given, given, rule, openBy, closeBy, takeBy, resetBy, open?, admit, shut, Fine, callOf, toldOf}
+use Rattle.promise.proofs.Lives.{GoodAt, record-obeys, only-same, live-closed, live-gone, live-alike, lives-sent, lives-told, open-still, lives-eight, fresh-shut}
 use Rattle.promise.proofs.Bridge.{small, area-sound, taken-told}
 
 -- what the machine does with a call that is no delivery
@@ -158,6 +160,22 @@ module _ (d : Device) (h : Held) (good : GoodAt d h) where
       go true = rw same
       go false = way (ltb (lowestWaiting (d .subscriptions)) entryCount) (ltb (lowestDue (d .connections)) connectionCount)
 
+  -- of a fresh device no connection is open, so no byte is left
+  none-left : (reading : ℕ) → only (open? (freshOf reading)) h ≡ none-held
+  unfolding only
+  none-left reading = fun-ext λ n. rw (fresh-shut reading n)
+
+  pub datagram-told : (g : List ℕ) → Told d h (ask (datagram g))
+  unfolding callOf datagramCall restarted step whole rule toldOf resetBy freshState
+  datagram-told g = rw (record-obeys d h good, area-sound d h good) (go (resets (d .mechanism) g))
+    where
+      go : (b : Bool)
+          → let s = resetBy b d in
+          cond {A = Outcome} b (restarted (stateOf d (counted h 8))) (outcome (0 ∷ 0 ∷ []) (stateOf d (counted h 8)) (flat h 8) [])
+          ≡ outcome (s .1 .answer) (stateOf (s .0) (counted (only (open? (s .0)) h) 8)) (flat (only (open? (s .0)) h) 8) (s .1 .output)
+      go true = rw (none-left (d .reading), counted-none 8, flat-none 8)
+      go false = rw same
+
   pub deliver-told : (n : ℕ) (p out : List ℕ) → Told d h (deliver n p out)
   unfolding callOf deliverCall step admit toldOf delivered
   deliver-told n p out =
@@ -179,3 +197,4 @@ module _ (d : Device) (h : Held) (good : GoodAt d h) where
   told (ask (closing n)) = close-told n
   told (ask (ticking reading)) = tick-told reading
   told (ask (taking out)) = take-told out
+  told (ask (datagram g)) = datagram-told g

@@ -16,7 +16,6 @@ use Rattle.area.specs.Area.{partBytes, areaBytes, partAt}
 use Rattle.connection.specs.State.{connectionCount, closed, liveAt}
 use Rattle.device.specs.State.{freshOf}
 use Rattle.device.specs.declared.Device.{Device}
-use Rattle.device.proofs.Keeps.{rules-kept}
 use Rattle.stream.specs.Machine.{Call, deliver, ask, Whole, asked, Answer, Held, none-held, run, step}
 use Rattle.stream.specs.Promise.{Bytes, AllBytes, Good}
 use Rattle.stream.specs.Lent.{partOf, flat, counted}
@@ -38,7 +37,7 @@ use Rattle.promise.specs.Stream.{runOf, gives, machine, GoodState, Strea
 use Rattle.promise.proofs.Lives.{GoodAt, record-obeys}
 use Rattle.promise.proofs.Bridge.{small, area-sound}
 use Rattle.promise.proofs.Asks.{told}
-use Rattle.promise.proofs.Laws.{device-laws}
+use Rattle.promise.proofs.Laws.{fine-fresh, device-laws}
 use Rattle.promise.proofs.Lents.{heldIn, kept-good, kept-counts, kept-area}
 
 -- ---- bytes in the area
@@ -104,14 +103,11 @@ calling r area c b w =
 fresh-good : (reading : ℕ) → GoodAt (freshOf reading) none-held
 fresh-good reading =
     record {
-      fine = record { obeys = rules-kept .fresh reading; eight = eight };
+      fine = fine-fresh reading;
       waiting = λ n. nil-waits;
       empty = λ n e. refl;
       octets = λ n. octets-nil;
     }
-  where
-    eight : length (freshOf reading .connections) ≡ 8
-    eight = unfold freshOf in refl
 
 fresh-state : (reading : ℕ) → freshState reading ≡ stateOf (freshOf reading) (counted none-held 8)
 unfolding states.freshState

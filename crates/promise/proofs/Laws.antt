@@ -15,13 +15,14 @@ use Rattle.frame.specs.declared.Decision.{Decision}
 use Rattle.frame.specs.declared.Decision.the-variants.{Undecided, Faulty, Sound}
 use Rattle.frame.specs.Sound.{SoundAt}
 use Rattle.frame.proofs.Sounds.{sound-at}
+use Rattle.mechanism.specs.Datagram.{resets}
 use Rattle.connection.specs.State.{connectionCount, closed, opened, liveAt, isFree, lowestFree, lowestDue}
 use Rattle.connection.specs.Supervision.{fitsStep, closesAt, tickedOf}
 use Rattle.connection.specs.Kept.{SupervisionKept}
 use Rattle.connection.specs.declared.Connection.{Connection}
 use Rattle.connection.proofs.Keeps.{supervision-kept}
 use Rattle.subscription.specs.State.{entryCount, lowestWaiting}
-use Rattle.device.specs.State.{withConnections, openOf, closeOf, sweepOf, sentAt, toldAt}
+use Rattle.device.specs.State.{freshOf, withConnections, openOf, closeOf, sweepOf, sentAt, toldAt}
 use Rattle.device.specs.Rules.{deviceObeys}
 use Rattle.device.specs.Time.{stepOf, advanced, tickBy, tickOf}
 use Rattle.device.specs.declared.Device.{Device}
@@ -42,8 +43,8 @@ use Rattle.endpoint.specs.Deliver.{leastOutput}
 use Rattle.endpoint.specs.Take.{entryAt, notifiedOf, sentOut, notifying, reminding, takenBy}
 use Rattle.endpoint.proofs.States.{live-low}
 use Rattle.promise.specs.Rules as rules
-use Rattle.promise.specs.Rules.{Ask, opening, closing, ticking, taking, Asked, Given, given, messageBy, openBy, closeBy, takeBy, rule, open?, admit, bitOf, shut, Fine}
-use Rattle.promise.proofs.Lives.{live-closed, live-gone, live-alike, live-sound, lives-sent, lives-told, open-still}
+use Rattle.promise.specs.Rules.{Ask, opening, closing, ticking, taking, datagram, Asked, Given, given, messageBy, openBy, closeBy, takeBy, resetBy, rule, open?, admit, bitOf, shut, Fine}
+use Rattle.promise.proofs.Lives.{live-closed, live-gone, live-alike, live-sound, lives-sent, lives-told, open-still, fresh-shut}
 
 admit-live : (d : Device) (n : ℕ) (out : List ℕ) → admit d n out ≡ 0 → liveAt (d .connections) n ≡ true
 unfolding admit
@@ -93,6 +94,12 @@ fine-sent d n f = record { obeys = rules-kept .sending d n (f .obeys); eight = s
 fine-told : (d : Device) (i : ℕ) → Fine d → Fine (toldAt d i)
 fine-told d i f = record { obeys = rules-kept .telling d i (f .obeys); eight = sound-kept .told-long d i ∙ f .eight }
 
+pub fine-fresh : (reading : ℕ) → Fine (freshOf reading)
+fine-fresh reading = record { obeys = rules-kept .fresh reading; eight = eight }
+  where
+    eight : length (freshOf reading .connections) ≡ 8
+    eight = unfold freshOf in refl
+
 keeps-message : (d : Device) (n : ℕ) (m out : List ℕ) → Fine d → liveAt (d .connections) n ≡ true → Decides m → Octets m
     → (x : Decision) → decide m ≡ x → Fine (messageBy x d n m out .0)
 unfolding messageBy taken
@@ -118,7 +125,7 @@ keeps-take d out f false = way (ltb (lowestWaiting (d .subscriptions)) entryCoun
     way false false = f
 
 keeps : (d : Device) (w : Asked) → Fine d → Apt rule open? admit d w → Fine (rule d w .0)
-unfolding rule openBy closeBy rules.tickBy
+unfolding rule openBy closeBy rules.tickBy resetBy
 keeps d (message n m out) f a = keeps-message d n m out f (admit-live d n out (a .0)) (a .1) (a .2) (decide m) refl
 keeps d (asked opening) f a = go (openOf d .answer)
   where
@@ -137,6 +144,11 @@ keeps d (asked (ticking reading)) f a = go (tickOf d reading .answer)
     go ticks.ClockBack = f
     go ticks.Overrun = f
 keeps d (asked (taking out)) f a = keeps-take d out f (ltb (length out) leastOutput)
+keeps d (asked (datagram g)) f a = go (resets (d .mechanism) g)
+  where
+    go : (b : Bool) → Fine (resetBy b d .0)
+    go true = fine-fresh (d .reading)
+    go false = f
 
 -- ---- tells
 
@@ -226,7 +238,7 @@ message-tells d n m out k l (Faulty f t) = close-tells d n k l
 message-tells d n m out k l (Sound t) = live-sound d n m k ∙ l
 
 tells : (d : Device) (w : Asked) (k : ℕ) → Fine d → Apt rule open? admit d w → open? d k ≡ true → open? (rule d w .0) k ≡ not (shut w (rule d w .1) k)
-unfolding rule shut openBy closeBy takeBy takenBy notifying reminding sentOut notifiedOf
+unfolding rule shut openBy closeBy resetBy takeBy takenBy notifying reminding sentOut notifiedOf
 tells d (message n m out) k f a l = message-tells d n m out k l (decide m)
 tells d (asked opening) k f a l = go (openOf d .answer)
   where
@@ -254,6 +266,11 @@ tells d (asked (taking out)) k f a l = go (ltb (length out) leastOutput)
     go : (b : Bool) → liveAt (takeBy b d out .0 .connections) k ≡ true
     go true = l
     go false = way (ltb (lowestWaiting (d .subscriptions)) entryCount) (ltb (lowestDue (d .connections)) connectionCount)
+tells d (asked (datagram g)) k f a l = go (resets (d .mechanism) g)
+  where
+    go : (b : Bool) → let s = resetBy b d in liveAt (s .0 .connections) k ≡ not (eqb (getD (s .1 .answer) 1 0) 1)
+    go true = fresh-shut (d .reading) k
+    go false = l
 
 -- THE DEVICE KEEPS THE LAWS
 pub device-laws : Laws rule open? admit shut Fine

@@ -7,3 +7,7 @@ pub mod Keeps
 pub mod Technicians
 pub mod Closing
 pub mod Alive
+pub mod Frames
+pub mod Keys
+pub mod Resets
+pub mod Frees

@@ -7,16 +7,16 @@ use native.Mathlib.Omega.{arith}
 use native.Mathlib.Decide.{decLe}
 use lib.Seq.{getD-set-same, getD-set-other, set-out, ext-getD}
 use lib.Dec.{eqb, leb}
-use lib.ListN.{length, getD, set, List·getD-map, length-map}
+use lib.ListN.{length, getD, set, replicate, List·getD-map, length-map}
 use borrow.Author.Tests.{eqb-true, eqb-false, eq-eqb, le-leb}
 use Rattle.frame.specs.Limits.{greatestSize}
 use Rattle.frame.specs.Decide.{decide, settled}
 use Rattle.frame.proofs.Ways.{deciding, unsettled}
 use Rattle.area.specs.Area.{countObeys, heldObeys}
 use Rattle.laws.specs.Lists.{any}
-use Rattle.connection.specs.State.{closed, opened, liveAt, isFree, lowestFree}
+use Rattle.connection.specs.State.{connectionCount, closed, opened, liveAt, isFree, lowestFree}
 use Rattle.connection.specs.declared.Connection.{Connection}
-use Rattle.device.specs.State.{withConnections, openOf, closeOf, sentAt, toldAt}
+use Rattle.device.specs.State.{freshOf, withConnections, openOf, closeOf, sentAt, toldAt}
 use Rattle.device.specs.Rules.{deviceObeys}
 use Rattle.device.specs.Closure.{ClosureFrees, Gone}
 use Rattle.device.specs.declared.Device.{Device}
@@ -141,3 +141,13 @@ lives-eight e q = ext-getD false (livesOf (open? e) 8) (livesIn e) (sizes (lengt
 
     at : (t : ℕ → Bool) (n i : ℕ) → i < n → getD (livesOf t n) i false ≡ t i
     at t n i l = getD-lives-of t n i l
+
+-- of a fresh device no connection is open
+pub fresh-shut : (reading k : ℕ) → liveAt (freshOf reading .connections) k ≡ false
+unfolding freshOf liveAt
+fresh-shut reading k = ap (λ (c : Connection). c .live) (getD-same connectionCount k)
+  where
+    getD-same : (n i : ℕ) → getD (replicate n closed) i closed ≡ closed
+    getD-same zero i = refl
+    getD-same (suc n) zero = refl
+    getD-same (suc n) (suc i) = getD-same n i

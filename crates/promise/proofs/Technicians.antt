@@ -16,6 +16,8 @@ use Rattle.frame.specs.Decide.{decide, settled}
 use Rattle.frame.proofs.Ways.{unsettled}
 use Rattle.frame.specs.declared.Decision.{Decision}
 use Rattle.frame.specs.declared.Decision.the-variants.{Undecided, Faulty, Sound}
+use Rattle.mechanism.specs.Arguments.{armedBy}
+use Rattle.mechanism.specs.Datagram.{resets}
 use Rattle.area.specs.Area.{areaSound, undecidedOf, heldKept}
 use Rattle.connection.specs.State.{connectionCount, closed, opened, liveAt, isFree, lowestDue}
 use Rattle.connection.specs.Supervision.{fitsStep, closesAt, tickedOf, heardOf, sentOf, beatingOf}
@@ -24,7 +26,7 @@ use Rattle.connection.proofs.Keeps.{supervision-kept}
 use Rattle.objects.specs.Answers.{failedOf}
 use Rattle.holders.specs.Holders.{ownerOf, isOther}
 use Rattle.subscription.specs.State.{entryCount, free, twinAt, lowestUnused, lowestWaiting}
-use Rattle.objects.specs.Methods.{lockMethod, unlockMethod, setMethod, addMethod, removeMethod, placeOf, isObject, isLocking, hasMethod}
+use Rattle.objects.specs.Methods.{lockMethod, unlockMethod, setMethod, addMethod, removeMethod, resetKeyMethod, placeOf, isObject, isLocking, hasMethod}
 use Rattle.objects.specs.Tests.{isForbidden, isMalformed, entryOf, isEmitterBad, isValueBad}
 use Rattle.serve.specs.Serve.{ranWith, ranFirst, lastOf}
 use Rattle.rules.specs.Rule.{Ruled, commandsOf, beatOf, soundOf}
@@ -32,7 +34,7 @@ use Rattle.frame.specs.Limits.{headerEnd, notification, keepAlive}
 use Rattle.frame.specs.Header.{pduType, messageCount}
 use Rattle.frame.specs.Entry.{entrySize}
 use Rattle.fields.specs.Fields.{heartbeatOf}
-use Rattle.device.specs.State.{sweepOf, openOf, closeOf, atConnection, withSubscriptions, withHolders, heardAt, sentAt, toldAt, beatingAt}
+use Rattle.device.specs.State.{sweepOf, openOf, closeOf, atConnection, withSubscriptions, withHolders, withMechanism, heardAt, sentAt, toldAt, beatingAt}
 use Rattle.device.specs.Run.{holderAt, muteAt, isHeldByOther, isOutOfTurn, isFull, statusOf, mutedOf, doneOf, answerOf, unchanged, ranBy, runOf}
 use Rattle.device.specs.declared.Opened.{Opened}
 use Rattle.device.specs.declared.Opening.{Opening}
@@ -52,10 +54,11 @@ use Rattle.endpoint.specs.Numbers.{clockBack, Outcome, refused}
 use Rattle.endpoint.specs.Calls.{openedBy, openCall, closeCall, tickedBy, tickCall}
 use Rattle.endpoint.specs.Deliver.{leastOutput, heldAt, messaged, deliveredBy, takenIn, deliverCall}
 use Rattle.endpoint.specs.Take.{entryAt, notifiedOf, sentOut, notifying, reminding, takenBy, takeCall}
+use Rattle.endpoint.specs.Datagram.{datagramCall}
 use Rattle.endpoint.specs.declared.Record.{Record}
 use Rattle.endpoint.proofs.States.{live-low}
 use Rattle.promise.specs.Rules as rules
-use Rattle.promise.specs.Rules.{Ask, opening, closing, ticking, taking, rule, bitOf, shut, Fine, callOf}
+use Rattle.promise.specs.Rules.{Ask, opening, closing, ticking, taking, datagram, rule, bitOf, shut, Fine, callOf}
 use Rattle.promise.specs.Technician.{Watched, stepAt, passes, Closes, Leaves, lockStatus, isSilent, callsOf, allSilent, readingBy, stepBy, timeOf, Exactly, TechnicianLetIn}
 use Rattle.promise.proofs.Lives.{lives-get, length-lives}
 use Rattle.promise.proofs.Laws.{device-laws}
@@ -247,7 +250,7 @@ other-holds n k e = go (ltb k 8) refl
     go true b = rw (ne-eqb (n + 1) 0 (λ z. omega arith), ne-eqb (n + 1) (k + 1) (λ z. eqb-false k n e (omega arith)))
     go false b = rw (ne-eqb (n + 1) 0 (λ z. omega arith))
 
-locked-out : (d : Device) (n k at : ℕ) → eqb k n ≡ false → at < 8 → getD (d .holders) at 0 ≡ n + 1 → lockStatus d k at ≡ 3
+pub locked-out : (d : Device) (n k at : ℕ) → eqb k n ≡ false → at < 8 → getD (d .holders) at 0 ≡ n + 1 → lockStatus d k at ≡ 3
 unfolding failedOf
 locked-out d n k at e h q =
     ap (λ (x : Ran). x .answer .status)
@@ -391,13 +394,15 @@ module _ (n : ℕ) where
             (cond (eqb m setMethod) (mutedOf d target (getD part 0 0))
             (cond (eqb m addMethod) (withSubscriptions d (set (d .subscriptions) (lowestUnused (d .subscriptions)) (entryOf k part)))
             (cond (eqb m removeMethod) (withSubscriptions d (set (d .subscriptions) (twinAt (entryOf k part) (d .subscriptions)) free))
-            d)))))
+            (cond (eqb m resetKeyMethod) (withMechanism d (armedBy part))
+            d))))))
         go true b h = held (ownerOf k) h
         go false true h = held 0 h
         go false false h =
             either P (eqb m setMethod) _ _ (either P (eqb (muteAt d target) (getD part 0 0)) _ _ (same-refl d) (same-of d _ refl refl refl (λ at q. q)))
             (either P (eqb m addMethod) _ _ (same-of d _ refl refl refl (λ at q. q))
-            (either P (eqb m removeMethod) _ _ (same-of d _ refl refl refl (λ at q. q)) (same-refl d)))
+            (either P (eqb m removeMethod) _ _ (same-of d _ refl refl refl (λ at q. q))
+            (either P (eqb m resetKeyMethod) _ _ (same-of d _ refl refl refl (λ at q. q)) (same-refl d))))
 
     run-same : (d : Device) (target m count : ℕ) (part : List ℕ) → Same n d (runOf d k target m count part .device)
     unfolding runOf ranBy statusOf
@@ -501,6 +506,16 @@ take-call r out n =
     P : Outcome → Type 0
     P o = Same n (r .device) (o .state .device)
 
+datagram-call : (r : Record) (area g : List ℕ) (n : ℕ) → not (resets (r .device .mechanism) g) ≡ true → Same n (r .device) (datagramCall r area g .state .device)
+unfolding datagramCall
+datagram-call r area g n a =
+    either P (recordObeys r) _ _
+    (either P (areaSound (r .held) area) _ _ (rw (not-true (resets (r .device .mechanism) g) a) (same-refl n (r .device))) (same-refl n (r .device)))
+    (same-refl n (r .device))
+  where
+    P : Outcome → Type 0
+    P o = Same n (r .device) (o .state .device)
+
 deliver-call : (r : Record) (area : List ℕ) (k : ℕ) (piece out : List ℕ) (n : ℕ) → (not (eqb k n) || not (settled (decide (undecidedOf area k (heldAt r k) ++ piece)))) ≡ true → liveAt (r .device .connections) n ≡ true
     → Same n (r .device) (deliverCall r area k piece out .state .device)
 deliver-call r area k piece out n a l = go (eqb k n) refl a
@@ -537,6 +552,7 @@ one r area (ask (ticking x)) n H s a w l =
     let v = leaving r area x a n H s w l in
     record { watched = v .watched; locks = λ at h. lock-kept n at (r .device) (tickCall r area x .state .device) (v .stays) h; reading = moved r area x a }
 one r area (ask (taking out)) n H s a w l = same-holds n H s (r .device) _ w (take-call r out n)
+one r area (ask (datagram g)) n H s a w l = same-holds n H s (r .device) _ w (datagram-call r area g n a)
 
 -- ---- calls one after another
 record Still (n H s : ℕ) (d e : Device) : Type 0 where

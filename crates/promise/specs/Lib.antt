@@ -5,3 +5,5 @@ pub mod Examples
 pub mod Technician
 pub mod Closure
 pub mod Heartbeats
+pub mod Key
+pub mod Reset

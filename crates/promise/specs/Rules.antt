@@ -1,4 +1,4 @@
--- Document 01's rules over whole messages, and the endpoint's calls as one function.
+-- Document 01's rules over whole messages, document 02's datagrams among them, and the endpoint's calls as one function.
 use Prim.Native.Nat.{ℕ, zero, suc, _/_, _%_}
 use mathlib.Core.Path.{_≡_}
 use mathlib.Core.Bool.{Bool, cond, true, false}
@@ -9,9 +9,10 @@ use Rattle.frame.specs.Decide.{decide}
 use Rattle.frame.specs.declared.Decision.{Decision}
 use Rattle.frame.specs.declared.Decision.the-variants.{Undecided, Faulty, Sound}
 use Rattle.layout.specs.Message.{atFront}
+use Rattle.mechanism.specs.Datagram.{resets}
 use Rattle.connection.specs.State.{liveAt, lowestDue}
 use Rattle.subscription.specs.State.{lowestWaiting}
-use Rattle.device.specs.State.{openOf, closeOf}
+use Rattle.device.specs.State.{freshOf, openOf, closeOf}
 use Rattle.device.specs.Time.{tickOf}
 use Rattle.device.specs.Rules.{deviceObeys}
 use Rattle.device.specs.declared.Device.{Device}
@@ -27,6 +28,7 @@ use Rattle.endpoint.specs.Numbers.{noConnection, noRoom, tableFull, clockBack, 
 use Rattle.endpoint.specs.Calls.{openCall, closeCall, tickCall}
 use Rattle.endpoint.specs.Deliver.{leastOutput, deliverCall}
 use Rattle.endpoint.specs.Take.{takenBy, takeCall}
+use Rattle.endpoint.specs.Datagram.{datagramCall}
 use Rattle.endpoint.specs.declared.Record.{Record}
 
 -- the calls that are no delivery
@@ -35,6 +37,7 @@ pub data Ask : Type 0 where
   closing : ℕ → Ask
   ticking : ℕ → Ask
   taking : List ℕ → Ask
+  datagram : List ℕ → Ask
 
 -- a call of the rules, whose room is the output lent
 abbrev pub Asked : Type 0
@@ -75,6 +78,11 @@ takeBy false d out =
     let o = takenBy (stateOf d []) out (lowestWaiting (d .subscriptions)) (lowestDue (d .connections)) in
     (o .state .device, given (o .answer) (o .output))
 
+-- document 02 (ii), "After the reset the record is a fresh one at the last reading"; "any other changes nothing"
+unfoldable pub resetBy : Bool → Device → Device × Given
+resetBy true d = (freshOf (d .reading), given (0 ∷ 1 ∷ []) [])
+resetBy false d = (d, given (0 ∷ 0 ∷ []) [])
+
 -- THE RULES of document 01 when messages come whole
 unfoldable pub rule : Device → Asked → Device × Given
 rule d (message n m out) = messageBy (decide m) d n m out
@@ -82,6 +90,7 @@ rule d (asked opening) = openBy (openOf d .answer) d (openOf d .device)
 rule d (asked (closing n)) = closeBy (liveAt (d .connections) n) d n
 rule d (asked (ticking reading)) = tickBy (tickOf d reading .answer) d (tickOf d reading .device)
 rule d (asked (taking out)) = takeBy (ltb (length out) leastOutput) d out
+rule d (asked (datagram g)) = resetBy (resets (d .mechanism) g) d
 
 abbrev pub open? : Device → ℕ → Bool
 open? d n = liveAt (d .connections) n
@@ -95,13 +104,14 @@ unfoldable pub bitOf : ℕ → ℕ → Bool
 bitOf mask zero = eqb (mask % 2) 1
 bitOf mask (suc n) = bitOf (mask / 2) n
 
--- whom an answer closes
+-- whom an answer closes: a reset closes all
 unfoldable pub shut : Asked → Given → ℕ → Bool
 shut (message c m x) o n = cond (eqb (getD (o .answer) 0 0) 3) (eqb n c) false
 shut (asked opening) o n = false
 shut (asked (closing c)) o n = cond (eqb (getD (o .answer) 0 0) 0) (eqb n c) false
 shut (asked (ticking t)) o n = cond (eqb (getD (o .answer) 0 0) 0) (bitOf (getD (o .answer) 1 0) n) false
 shut (asked (taking x)) o n = false
+shut (asked (datagram g)) o n = eqb (getD (o .answer) 1 0) 1
 
 -- the record rules of the device, whose array has eight connections
 pub record Fine (d : Device) : Type 0 where
@@ -116,6 +126,7 @@ callOf r area (ask opening) = outcome (openCall r .answer) (openCall r .state) a
 callOf r area (ask (closing n)) = closeCall r area n
 callOf r area (ask (ticking reading)) = tickCall r area reading
 callOf r area (ask (taking out)) = outcome (takeCall r out .answer) (takeCall r out .state) area (takeCall r out .output)
+callOf r area (ask (datagram g)) = datagramCall r area g
 
 -- the numbers of a delivery that decided: 0, the kind, the bytes taken, the value
 unfoldable pub withTaken : ℕ → List ℕ → List ℕ

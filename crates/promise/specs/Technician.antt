@@ -10,6 +10,7 @@ use lib.ListN.{length, getD}
 use Rattle.frame.specs.Decide.{decide, settled}
 use Rattle.frame.specs.declared.Decision.the-variants.{Undecided}
 use Rattle.area.specs.Area.{areaSound, undecidedOf}
+use Rattle.mechanism.specs.Datagram.{resets}
 use Rattle.connection.specs.State.{closed, liveAt}
 use Rattle.subscription.specs.State.{firstMute}
 use Rattle.objects.specs.Methods.{lockMethod}
@@ -24,7 +25,7 @@ use Rattle.endpoint.specs.Numbers.{clockBack, refused}
 use Rattle.endpoint.specs.Calls.{tickCall}
 use Rattle.endpoint.specs.Deliver.{heldAt, deliverCall}
 use Rattle.endpoint.specs.declared.Record.{Record}
-use Rattle.promise.specs.Rules.{Ask, opening, closing, ticking, taking, bitOf, callOf}
+use Rattle.promise.specs.Rules.{Ask, opening, closing, ticking, taking, datagram, bitOf, callOf}
 
 -- connection n of a device of eight is open, with heartbeat H above zero and that silence; that the device obeys the rules follows
 -- where a call is not refused
@@ -66,13 +67,14 @@ lockStatus d k at = runOf d k (firstMute + at) lockMethod 0 [] .answer .status
 -- ---- calls one after another
 
 -- by this call connection n neither says a whole message nor is closed by the host: a tick that is not refused, bytes of its own that
--- decide nothing, another's bytes or close, an opening, a taking
+-- decide nothing, another's bytes or close, an opening, a taking, a datagram that does not reset
 unfoldable pub isSilent : ℕ → Record → List ℕ → Call Ask (List ℕ) → Bool
 isSilent n r area (deliver k piece out) = not (eqb k n) || not (settled (decide (undecidedOf area k (heldAt r k) ++ piece)))
 isSilent n r area (ask opening) = true
 isSilent n r area (ask (closing k)) = not (eqb k n)
 isSilent n r area (ask (ticking reading)) = passes r area reading
 isSilent n r area (ask (taking out)) = true
+isSilent n r area (ask (datagram g)) = not (resets (r .device .mechanism) g)
 
 -- the record and the area after these calls, and that connection n is silent in all of them
 unfoldable pub callsOf : Record → List ℕ → List (Call Ask (List ℕ)) → Record × List ℕ
@@ -90,6 +92,7 @@ readingBy last (ask opening) = last
 readingBy last (ask (closing k)) = last
 readingBy last (ask (ticking reading)) = reading
 readingBy last (ask (taking out)) = last
+readingBy last (ask (datagram g)) = last
 
 unfoldable pub stepBy : ℕ → Call Ask (List ℕ) → ℕ
 stepBy last (deliver k piece out) = 0
@@ -97,6 +100,7 @@ stepBy last (ask opening) = 0
 stepBy last (ask (closing k)) = 0
 stepBy last (ask (ticking reading)) = stepOf reading last
 stepBy last (ask (taking out)) = 0
+stepBy last (ask (datagram g)) = 0
 
 unfoldable pub timeOf : ℕ → List (Call Ask (List ℕ)) → ℕ
 timeOf last [] = 0

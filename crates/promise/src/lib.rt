@@ -5,6 +5,8 @@ ghost use Rattle.promise.specs.Examples.{ExamplesWorked};
 ghost use Rattle.promise.specs.Technician.{TechnicianLetIn};
 ghost use Rattle.promise.specs.Closure.{ClosureLeavesNothing};
 ghost use Rattle.promise.specs.Heartbeats.{HeartbeatSent};
+ghost use Rattle.promise.specs.Reset.{ResetByKey, RackFreeAgain};
+ghost use Rattle.promise.specs.Key.{LatestKeyCounts, KeyStaysInside};
 
 // Every call keeps the record rules and the area, so refusals 1 and 2 never come in a run.
 pub fn calls_keep()
@@ -42,4 +44,24 @@ pub fn closure_leaves_nothing()
 // A connection on which nothing was sent for its heartbeat is due, and the takes that follow send it something.
 pub fn heartbeat_sent()
     ensures { λ _. ⌜ HeartbeatSent ⌝ }
+{}
+
+// Exactly when a datagram resets, what it leaves, and that any other changes nothing.
+pub fn reset_by_key()
+    ensures { λ _. ⌜ ResetByKey ⌝ }
+{}
+
+// After a reset every channel can be locked, and the first to ask for it gets it.
+pub fn rack_free_again()
+    ensures { λ _. ⌜ RackFreeAgain ⌝ }
+{}
+
+// Only 3.14 with status 0 or a reset changes the key, over any list of calls.
+pub fn latest_key_counts()
+    ensures { λ _. ⌜ LatestKeyCounts ⌝ }
+{}
+
+// No answer, reply, notification or byte of the area tells anything of the key.
+pub fn key_stays_inside()
+    ensures { λ _. ⌜ KeyStaysInside ⌝ }
 {}

@@ -16,26 +16,27 @@ use Rattle.stream.specs.Promise.{Bytes, AllBytes}
 use Rattle.stream.specs.Lent.{flat, counted}
 use Rattle.endpoint.specs.State.{stateOf}
 use Rattle.endpoint.specs.declared.Record.{Record}
-use Rattle.promise.specs.Rules.{Ask, opening, closing, ticking, taking, callOf}
+use Rattle.promise.specs.Rules.{Ask, opening, closing, ticking, taking, datagram, callOf}
 use Rattle.promise.specs.Stream.{StreamTheorem, GoodState, machine, gives, runOf}
 use Rattle.promise.proofs.Keeps.{stream-theorem}
-use Rattle.script.specs.Script.{numbersOf, stage, outputAfter, callBy, firstSize, callIn, behind, callsFrom, callsIn, lastOutput, lastAnswer, endOf, scriptOf}
+use Rattle.script.specs.Script.{numbersOf, stage, outputAfter, sentBy, callBy, firstSize, callIn, behind, callsFrom, callsIn, lastOutput, lastAnswer, endOf, scriptOf}
 use Rattle.script.specs.Chain.{ScriptsRun}
-use Rattle.script.proofs.Stages.{is-deliver}
+use Rattle.script.proofs.Stages.{is-sent, is-datagram, is-deliver}
 
 call-bytes : (s output : List ℕ) → Octets s → Bytes (callIn s output)
-unfolding callIn callBy
-call-bytes s output o = go (eqb (getD s 0 0) 0) (eqb (getD s 0 0) 1) (eqb (getD s 0 0) 2) (eqb (getD s 0 0) 3)
+unfolding callIn callBy sentBy
+call-bytes s output o = go (eqb (getD s 0 0) 0) (eqb (getD s 0 0) 1) (eqb (getD s 0 0) 2) (eqb (getD s 0 0) 3) (eqb (getD s 0 0) 4)
   where
     piece : List ℕ
     piece = take (firstSize s - 6) (drop 6 s)
 
-    go : (a b c d : Bool) → Bytes (cond a (ask opening) (cond b (ask (closing (getD s 1 0))) (cond c (ask (ticking (be32At s 2))) (cond d (ask (taking output)) (deliver (getD s 1 0) piece output)))))
-    go true b c d = tt
-    go false true c d = tt
-    go false false true d = tt
-    go false false false true = tt
-    go false false false false = octets-take (firstSize s - 6) (drop 6 s) (octets-drop 6 s o)
+    go : (a b c d e : Bool) → Bytes (cond a (ask opening) (cond b (ask (closing (getD s 1 0))) (cond c (ask (ticking (be32At s 2))) (cond d (ask (taking output)) (cond e (ask (datagram piece)) (deliver (getD s 1 0) piece output))))))
+    go true b c d e = tt
+    go false true c d e = tt
+    go false false true d e = tt
+    go false false false true e = tt
+    go false false false false true = tt
+    go false false false false false = octets-take (firstSize s - 6) (drop 6 s) (octets-drop 6 s o)
 
 calls-bytes : (k : ℕ) (r : Record) (area s output : List ℕ) → Octets s → AllBytes (callsFrom k r area s output)
 unfolding callsFrom AllBytes behind
@@ -88,12 +89,12 @@ size-of kind n piece more k v =
     let f : 6 + be32At s 2 ≤ length s = omega (arith, w, length-append piece more) in
     rw (lt-leb kind 3 k, le-ltb (length s) (6 + be32At s 2) f) (ap (λ (x : ℕ). 6 + x) w)
 
-delivered : (kind n : ℕ) (piece more output : List ℕ) → 3 < kind → length piece < 4294967296
-    → (callIn (kind ∷ n ∷ (bytes32 (length piece) ++ (piece ++ more))) output ≡ deliver n piece output)
+sent : (kind n : ℕ) (piece more output : List ℕ) → 3 < kind → length piece < 4294967296
+    → (callIn (kind ∷ n ∷ (bytes32 (length piece) ++ (piece ++ more))) output ≡ sentBy kind n piece output)
     × (behind (kind ∷ n ∷ (bytes32 (length piece) ++ (piece ++ more))) ≡ more)
 unfolding callIn behind bytes32
-delivered kind n piece more output k v =
-    (rw (sized, less, take-append-seam piece more, is-deliver kind n (be32At s 2) piece output k) refl, rw (sized, six) (drop-append-seam piece more))
+sent kind n piece more output k v =
+    (rw (sized, less, take-append-seam piece more, is-sent kind n (be32At s 2) piece output k) refl, rw (sized, six) (drop-append-seam piece more))
   where
     s : List ℕ
     s = kind ∷ n ∷ (bytes32 (length piece) ++ (piece ++ more))
@@ -107,5 +108,19 @@ delivered kind n piece more output k v =
     six : 6 + length piece ≡ suc (suc (suc (suc (suc (suc (length piece))))))
     six = omega arith
 
+a-datagram : (n : ℕ) (piece more output : List ℕ) → length piece < 4294967296
+    → (callIn (4 ∷ n ∷ (bytes32 (length piece) ++ (piece ++ more))) output ≡ ask (datagram piece))
+    × (behind (4 ∷ n ∷ (bytes32 (length piece) ++ (piece ++ more))) ≡ more)
+a-datagram n piece more output v =
+    let w = sent 4 n piece more output (omega arith) v in
+    (w .0 ∙ is-datagram 4 n piece output refl, w .1)
+
+delivered : (kind n : ℕ) (piece more output : List ℕ) → 4 < kind → length piece < 4294967296
+    → (callIn (kind ∷ n ∷ (bytes32 (length piece) ++ (piece ++ more))) output ≡ deliver n piece output)
+    × (behind (kind ∷ n ∷ (bytes32 (length piece) ++ (piece ++ more))) ≡ more)
+delivered kind n piece more output k v =
+    let w = sent kind n piece more output (omega arith) v in
+    (w .0 ∙ is-deliver kind n piece output (omega arith), w .1)
+
 pub scripts-run : ScriptsRun
-scripts-run = record { chain = chained; pieces = pieces-bytes; asks = asked; deliveries = delivered }
+scripts-run = record { chain = chained; pieces = pieces-bytes; asks = asked; datagrams = a-datagram; deliveries = delivered }

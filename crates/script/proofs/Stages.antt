@@ -14,10 +14,11 @@ use Rattle.endpoint.specs.Numbers.{Outcome, outcome}
 use Rattle.endpoint.specs.Calls.{openCall, closeCall, tickCall}
 use Rattle.endpoint.specs.Deliver.{deliverCall}
 use Rattle.endpoint.specs.Take.{takeCall}
+use Rattle.endpoint.specs.Datagram.{datagramCall}
 use Rattle.endpoint.specs.declared.Record.{Record}
-use Rattle.promise.specs.Rules.{Ask, opening, closing, ticking, taking, callOf}
+use Rattle.promise.specs.Rules.{Ask, opening, closing, ticking, taking, datagram, callOf}
 use Rattle.promise.specs.Stream.{runOf}
-use Rattle.script.specs.Script.{numbersOf, Stage, stage, outputAfter, stageOf, callBy, headBytes, firstSize, callIn, behind, callsFrom, callsIn, lastOutput, lastAnswer, endOf, scriptOf}
+use Rattle.script.specs.Script.{numbersOf, Stage, stage, outputAfter, stageOf, sentBy, callBy, headBytes, firstSize, callIn, behind, callsFrom, callsIn, lastOutput, lastAnswer, endOf, scriptOf}
 use Rattle.script.specs.declared.Numbers.{Numbers}
 
 -- ---- each kind of call, from the outcome that its contract gives
@@ -38,6 +39,11 @@ module _ (s : Record) (m : Numbers) (answer : List ℕ) (named : m ≡ numbersOf
   pub take-stage : outcome answer s [] y ≡ takeCall r output → stage s area y m ≡ stageOf (ask (taking output)) r area output
   unfolding stageOf callOf outputAfter
   take-stage e = rw (← e) (ap (stage s area y) named)
+
+  pub datagram-stage : (piece : List ℕ) → outcome answer s x [] ≡ datagramCall r area piece
+      → stage s x output m ≡ stageOf (ask (datagram piece)) r area output
+  unfolding stageOf callOf outputAfter
+  datagram-stage piece e = rw (← e) (ap (stage s x output) named)
 
   pub deliver-stage : (n : ℕ) (piece : List ℕ) → outcome answer s x y ≡ deliverCall r area n piece output
       → stage s x y m ≡ stageOf (deliver n piece output) r area output
@@ -63,10 +69,19 @@ module _ (kind n value : ℕ) (piece output : List ℕ) where
   unfolding callBy
   is-take e = rw e refl
 
-  pub is-deliver : 3 < kind → callBy kind n value piece output ≡ deliver n piece output
+  pub is-sent : 3 < kind → callBy kind n value piece output ≡ sentBy kind n piece output
   unfolding callBy
-  is-deliver h =
+  is-sent h =
       simp (ne-eqb kind 0 (omega arith), ne-eqb kind 1 (omega arith), ne-eqb kind 2 (omega arith), ne-eqb kind 3 (omega arith))
+
+module _ (kind n : ℕ) (piece output : List ℕ) where
+  pub is-datagram : kind ≡ 4 → sentBy kind n piece output ≡ ask (datagram piece)
+  unfolding sentBy
+  is-datagram e = rw e refl
+
+  pub is-deliver : (kind ≡ 4 → ⊥) → sentBy kind n piece output ≡ deliver n piece output
+  unfolding sentBy
+  is-deliver h = simp (ne-eqb kind 4 h)
 
 -- how long the first call is, once each test has gone its way
 module _ (s : List ℕ) where

@@ -5,11 +5,12 @@ use mathlib.Core.List.{List, [], _∷_, _++_}
 use lib.ListN.{length}
 use Rattle.octets.specs.Numbers.{bytes32, Octets}
 use Rattle.device.specs.declared.Device.{Device}
-use Rattle.stream.specs.Machine.{Held, deliver}
+use Rattle.stream.specs.Machine.{Held, deliver, ask}
 use Rattle.stream.specs.Promise.{AllBytes}
 use Rattle.stream.specs.Lent.{flat, counted}
 use Rattle.endpoint.specs.State.{stateOf}
 use Rattle.endpoint.specs.declared.Record.{Record}
+use Rattle.promise.specs.Rules.{datagram}
 use Rattle.promise.specs.Stream.{GoodState, machine, gives}
 use Rattle.script.specs.Script.{numbersOf, stage, callBy, callIn, behind, callsIn, lastOutput, lastAnswer, scriptOf}
 
@@ -26,7 +27,11 @@ pub record ScriptsRun : Type 0 where
   -- every call can be written: an opening, a closing, a reading or a taking in six bytes
   pub asks : (kind n value : ℕ) (more output : List ℕ) → kind ≤ 3 → value < 4294967296
       → (callIn (kind ∷ n ∷ (bytes32 value ++ more)) output ≡ callBy kind n value [] output) × (behind (kind ∷ n ∷ (bytes32 value ++ more)) ≡ more)
+  -- a datagram with its bytes behind them
+  pub datagrams : (n : ℕ) (piece more output : List ℕ) → length piece < 4294967296
+      → (callIn (4 ∷ n ∷ (bytes32 (length piece) ++ (piece ++ more))) output ≡ ask (datagram piece))
+      × (behind (4 ∷ n ∷ (bytes32 (length piece) ++ (piece ++ more))) ≡ more)
   -- and a delivery with its piece behind them
-  pub deliveries : (kind n : ℕ) (piece more output : List ℕ) → 3 < kind → length piece < 4294967296
+  pub deliveries : (kind n : ℕ) (piece more output : List ℕ) → 4 < kind → length piece < 4294967296
       → (callIn (kind ∷ n ∷ (bytes32 (length piece) ++ (piece ++ more))) output ≡ deliver n piece output)
       × (behind (kind ∷ n ∷ (bytes32 (length piece) ++ (piece ++ more))) ≡ more)

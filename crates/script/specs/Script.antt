@@ -8,7 +8,7 @@ use Rattle.octets.specs.Numbers.{be32At}
 use Rattle.stream.specs.Machine.{Call, deliver, ask}
 use Rattle.endpoint.specs.Numbers.{Outcome}
 use Rattle.endpoint.specs.declared.Record.{Record}
-use Rattle.promise.specs.Rules.{Ask, opening, closing, ticking, taking, callOf}
+use Rattle.promise.specs.Rules.{Ask, opening, closing, ticking, taking, datagram, callOf}
 use Rattle.promise.specs.Stream.{runOf}
 use Rattle.script.specs.declared.Numbers.{Numbers}
 
@@ -33,27 +33,32 @@ outputAfter (ask opening) o output = output
 outputAfter (ask (closing n)) o output = output
 outputAfter (ask (ticking reading)) o output = output
 outputAfter (ask (taking x)) o output = o .output
+outputAfter (ask (datagram g)) o output = output
 
 -- how the script stands once a call is made
 unfoldable pub stageOf : Call Ask (List ℕ) → Record → List ℕ → List ℕ → Stage
 stageOf c r area output =
     stage (callOf r area c .state) (callOf r area c .area) (outputAfter c (callOf r area c) output) (numbersOf (callOf r area c .answer))
 
--- ---- how calls are written: a kind, a connection's number, a number of 32 bits, and a delivery's piece
+-- ---- how calls are written: a kind, a connection's number, a number of 32 bits, and the piece of a datagram or a delivery
 
--- 0 opens, 1 closes that connection, 2 is a clock reading, 3 takes; any other delivers to that connection
+-- 4 is a datagram on the reset mechanism's port; any other of the kinds with a piece delivers to that connection
+unfoldable pub sentBy : ℕ → ℕ → List ℕ → List ℕ → Call Ask (List ℕ)
+sentBy kind n piece output = cond (eqb kind 4) (ask (datagram piece)) (deliver n piece output)
+
+-- 0 opens, 1 closes that connection, 2 is a clock reading, 3 takes; any other sends its piece
 unfoldable pub callBy : ℕ → ℕ → ℕ → List ℕ → List ℕ → Call Ask (List ℕ)
 callBy kind n value piece output =
     cond (eqb kind 0) (ask opening)
     (cond (eqb kind 1) (ask (closing n))
     (cond (eqb kind 2) (ask (ticking value))
     (cond (eqb kind 3) (ask (taking output))
-    (deliver n piece output))))
+    (sentBy kind n piece output))))
 
 abbrev pub headBytes : ℕ
 headBytes = 6
 
--- how many bytes the first call of a script has: a delivery's piece is as long as its number says, or as what is left
+-- how many bytes the first call of a script has: a piece is as long as its number says, or as what is left
 unfoldable pub firstSize : List ℕ → ℕ
 firstSize s =
     cond (leb (getD s 0 0) 3) headBytes

@@ -3,17 +3,18 @@ use endpoint::Closing;
 use endpoint::Delivery;
 use endpoint::Opening;
 use endpoint::Record;
+use endpoint::Resetting;
 use endpoint::Taking;
 use endpoint::Ticking;
 ghost use mathlib.Core.Path.{_≡_};
 ghost use Prim.Native.Nat.{_≤_};
 ghost use mathlib.Core.List.{[], _∷_};
 ghost use lib.ListN.{length};
-ghost use Rattle.endpoint.specs.Numbers.{openingNumbers, closingNumbers, tickingNumbers, deliveryNumbers, takingNumbers};
+ghost use Rattle.endpoint.specs.Numbers.{openingNumbers, closingNumbers, tickingNumbers, deliveryNumbers, takingNumbers, resettingNumbers};
 ghost use Rattle.stream.specs.Machine.{deliver, ask};
-ghost use Rattle.promise.specs.Rules.{opening, closing, ticking, taking};
+ghost use Rattle.promise.specs.Rules.{opening, closing, ticking, taking, datagram};
 ghost use Rattle.script.specs.Chain.{ScriptsRun};
-ghost use Rattle.script.specs.Script.{numbersOf, stage, stageOf, callBy, callIn, firstSize, scriptOf};
+ghost use Rattle.script.specs.Script.{numbersOf, stage, stageOf, sentBy, callBy, callIn, firstSize, scriptOf};
 
 // A call starts with six bytes: its kind, a connection's number, and a number of 32 bits.
 pub const HEAD: usize = 6;
@@ -25,6 +26,9 @@ pub const CLOSE: u8 = 1;
 pub const TICK: u8 = 2;
 
 pub const TAKE: u8 = 3;
+
+// On the reset mechanism's port; any kind above delivers to a connection.
+pub const DATAGRAM: u8 = 4;
 
 // The paper's numbers of an answer, in their order, and zeros behind them.
 pub struct Numbers {
@@ -121,6 +125,17 @@ fn taking_numbers(answer: Taking) -> Numbers
     }
 }
 
+fn resetting_numbers(answer: Resetting) -> Numbers
+    ensures { λ r. ⌜ r ≡ numbersOf (resettingNumbers answer) ⌝ }
+{
+    match answer {
+        Resetting::Nothing => done(0, 0, 0),
+        Resetting::Done => done(1, 0, 0),
+        Resetting::BadRecord => refusal(1),
+        Resetting::BadArea => refusal(2),
+    }
+}
+
 fn open(state: Record, area: &mut [u8], output: &mut [u8]) -> Played
     ensures { λ r. ⌜ stage (r .state) (now (area .exit)) (now (output .exit)) (r .answer) ≡ stageOf (ask opening) state (now (area .entry)) (now (output .entry)) ⌝ }
 {
@@ -161,6 +176,16 @@ fn take(state: Record, area: &mut [u8], output: &mut [u8]) -> Played
     Played { state, answer }
 }
 
+fn datagram(state: Record, area: &mut [u8], piece: &[u8], output: &mut [u8]) -> Played
+    ensures { λ r. ⌜ stage (r .state) (now (area .exit)) (now (output .exit)) (r .answer) ≡ stageOf (ask (datagram (now (piece .entry)))) state (now (area .entry)) (now (output .entry)) ⌝ }
+{
+    let reset = state.datagram(area, piece);
+    let told = reset.answer;
+    let answer = resetting_numbers(told);
+    let state = reset.state;
+    Played { state, answer }
+}
+
 fn deliver(state: Record, area: &mut [u8], n: u8, piece: &[u8], output: &mut [u8]) -> Played
     ensures { λ r. ⌜ stage (r .state) (now (area .exit)) (now (output .exit)) (r .answer) ≡ stageOf (deliver n (now (piece .entry)) (now (output .entry))) state (now (area .entry)) (now (output .entry)) ⌝ }
 {
@@ -169,6 +194,16 @@ fn deliver(state: Record, area: &mut [u8], n: u8, piece: &[u8], output: &mut [u8
     let answer = delivery_numbers(told);
     let state = delivered.state;
     Played { state, answer }
+}
+
+// The kinds that have a piece.
+fn send(state: Record, area: &mut [u8], kind: u8, n: u8, piece: &[u8], output: &mut [u8]) -> Played
+    ensures { λ r. ⌜ stage (r .state) (now (area .exit)) (now (output .exit)) (r .answer) ≡ stageOf (sentBy kind n (now (piece .entry)) (now (output .entry))) state (now (area .entry)) (now (output .entry)) ⌝ }
+{
+    if kind == DATAGRAM {
+        return datagram(state, area, piece, output);
+    }
+    deliver(state, area, n, piece, output)
 }
 
 fn call(
@@ -194,7 +229,7 @@ fn call(
     if kind == TAKE {
         return take(state, area, output);
     }
-    deliver(state, area, n, piece, output)
+    send(state, area, kind, n, piece, output)
 }
 
 // How many bytes the first call of a script has.

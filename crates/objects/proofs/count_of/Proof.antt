@@ -19,5 +19,9 @@ returns-4 : tie.Need-returns-4
 unfolding countOf
 returns-4 c = search tests
 
+returns-5 : tie.Need-returns-5
+unfolding countOf
+returns-5 c = search tests
+
 pub count-of-spec : {M : Type 1} → statement M
-count-of-spec = tie.close (tie.spec returns returns-2 returns-3 returns-4)
+count-of-spec = tie.close (tie.spec returns returns-2 returns-3 returns-4 returns-5)

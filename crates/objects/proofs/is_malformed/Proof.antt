@@ -1,4 +1,4 @@
-use Rattle.objects.proofs.Shapes.{count-bad, length-bad, pair-none, pair-is, add-long}
+use Rattle.objects.proofs.Shapes.{count-bad, misfit-is, length-bad, pair-none, pair-is, add-long}
 use native.Mathlib.Omega.{arith}
 use borrow.Author.Needs.{needs}
 use Rattle.objects.proofs.is_malformed.Statement.{statement}
@@ -10,23 +10,29 @@ count-of-requires c κs = search needs
 returns : tie.Need-returns
 returns c = search count-bad
 
+is-misfit-requires : tie.Need-is-misfit-requires
+is-misfit-requires c κs = search needs
+
+returns-2 : tie.Need-returns-2
+returns-2 c = search misfit-is
+
 length-of-requires : tie.Need-length-of-requires
 length-of-requires c κs = search needs
 
-returns-2 : tie.Need-returns-2
-returns-2 c = search length-bad
-
 returns-3 : tie.Need-returns-3
-returns-3 c = search pair-none
-
-shared-slice-read-result : tie.Need-shared-slice-read-result
-shared-slice-read-result c = omega (arith, add-long _ _ (c .before .if3 .left) (c .before .before .before .length-of .ensures))
-
-shared-slice-read-result-2 : tie.Need-shared-slice-read-result-2
-shared-slice-read-result-2 c = omega (arith, add-long _ _ (c .before .before .if3 .left) (c .before .before .before .before .length-of .ensures))
+returns-3 c = search length-bad
 
 returns-4 : tie.Need-returns-4
-returns-4 c = search pair-is
+returns-4 c = search pair-none
+
+shared-slice-read-result : tie.Need-shared-slice-read-result
+shared-slice-read-result c = omega (arith, add-long _ _ (c .before .if4 .left) (c .before .before .before .length-of .ensures))
+
+shared-slice-read-result-2 : tie.Need-shared-slice-read-result-2
+shared-slice-read-result-2 c = omega (arith, add-long _ _ (c .before .before .if4 .left) (c .before .before .before .before .length-of .ensures))
+
+returns-5 : tie.Need-returns-5
+returns-5 c = search pair-is
 
 pub is-malformed-spec : {M : Type 1} → statement M
 is-malformed-spec =
@@ -34,9 +40,11 @@ is-malformed-spec =
     (tie.spec
     count-of-requires
     returns
-    length-of-requires
+    is-misfit-requires
     returns-2
+    length-of-requires
     returns-3
+    returns-4
     shared-slice-read-result
     shared-slice-read-result-2
-    returns-4)
+    returns-5)

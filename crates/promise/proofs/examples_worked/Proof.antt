@@ -17,7 +17,7 @@ use Rattle.connection.specs.Supervision.{fitsStep, closesAt, quietAfter, ticked
 use Rattle.subscription.specs.State.{isMute, isUnused, isWaiting, isTwin, markedOf, sweptOf}
 use Rattle.subscription.specs.State as subscriptions
 use Rattle.objects.specs.Methods.{placeOf, isManager, isObject, isTelling, isLocking, isMuting, isSubscribing, hasMethod}
-use Rattle.objects.specs.Tests.{isForbidden, countOf, lengthOf, isPairBad, isMalformed, entryOf, isStrange, isEmitterBad, isMuteValue, isValueBad}
+use Rattle.objects.specs.Tests.{isForbidden, countOf, lengthOf, isLengthBad, isPairBad, isMalformed, entryOf, isStrange, isEmitterBad, isMuteValue, isValueBad}
 use Rattle.objects.specs.Answers.{classOf, identificationOf, replyOf, failedOf, toldOf}
 use Rattle.holders.specs.Holders.{ownerOf, isOther, holderObeys, sweptHolder}
 use Rattle.replies.specs.Bytes.{responseBytes, subscriberBytes, changeBytes, notificationEntry, notificationBytes, heartbeatBytes, keepAliveBytes}
@@ -34,7 +34,7 @@ use Rattle.promise.proofs.examples_worked.Statement.{statement}
 use Rattle.promise.proofs.examples_worked.Tie as tie
 
 returns : tie.Need-returns
-unfolding be16At be32At bytes16 bytes32 zeros formOf valueOf beatOf countFault fieldsFault headerFault leastEntry countPlace leastCount countFits entryFits entrySize entriesFill keepAliveFill dataSound decideData decideHeader decide entriesFrom entryBytes parametersOf methodAt commandOf notificationOf responseOf heartbeatOf heartbeatNumbers commandNumbers notificationNumbers responseNumbers messageOf readBy readOf hasEntry fieldsOf entryIn entryBy entries.entryOf partIn partBy partOf headBytes message atFront liveAt isFree isDue fitsStep closesAt quietAfter tickedOf heardOf sentOf setBeat beatingOf isMute isUnused isWaiting isTwin markedOf subscriptions.toldOf sweptOf placeOf isManager isObject isTelling isLocking isMuting isSubscribing hasMethod isForbidden countOf lengthOf isPairBad isMalformed entryOf isStrange isEmitterBad isMuteValue isValueBad classOf identificationOf replyOf failedOf toldOf ownerOf isOther holderObeys sweptHolder responseBytes subscriberBytes changeBytes notificationEntry notificationBytes heartbeatBytes keepAliveBytes freshOf openOf sweepOf heardAt sentAt toldAt beatingAt tickBy holderAt muteAt isHeldByOther isSubscribed isOutOfTurn isFull statusOf mutedOf doneOf answerOf ranBy runOf ranWith ranFirst lastOf responseTo responsesOf commandsOf ruling.beatOf soundOf notifiedOf sentOut notifying reminding takenBy messageBy rules.tickBy takeBy rule
+unfolding be16At be32At bytes16 bytes32 zeros formOf valueOf beatOf countFault fieldsFault headerFault leastEntry countPlace leastCount countFits entryFits entrySize entriesFill keepAliveFill dataSound decideData decideHeader decide entriesFrom entryBytes parametersOf methodAt commandOf notificationOf responseOf heartbeatOf heartbeatNumbers commandNumbers notificationNumbers responseNumbers messageOf readBy readOf hasEntry fieldsOf entryIn entryBy entries.entryOf partIn partBy partOf headBytes message atFront liveAt isFree isDue fitsStep closesAt quietAfter tickedOf heardOf sentOf setBeat beatingOf isMute isUnused isWaiting isTwin markedOf subscriptions.toldOf sweptOf placeOf isManager isObject isTelling isLocking isMuting isSubscribing hasMethod isForbidden countOf lengthOf isLengthBad isPairBad isMalformed entryOf isStrange isEmitterBad isMuteValue isValueBad classOf identificationOf replyOf failedOf toldOf ownerOf isOther holderObeys sweptHolder responseBytes subscriberBytes changeBytes notificationEntry notificationBytes heartbeatBytes keepAliveBytes freshOf openOf sweepOf heardAt sentAt toldAt beatingAt tickBy holderAt muteAt isHeldByOther isSubscribed isOutOfTurn isFull statusOf mutedOf doneOf answerOf ranBy runOf ranWith ranFirst lastOf responseTo responsesOf commandsOf ruling.beatOf soundOf notifiedOf sentOut notifying reminding takenBy messageBy rules.tickBy takeBy rule
 returns c = refl
 
 pub examples-worked-spec : {M : Type 1} → statement M

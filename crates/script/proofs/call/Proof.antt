@@ -1,13 +1,13 @@
 use native.Mathlib.Omega.{arith}
-use Rattle.script.proofs.Stages.{is-open, is-close, is-tick, is-take, is-deliver}
+use Rattle.script.proofs.Stages.{is-open, is-close, is-tick, is-take, is-sent}
 use borrow.Author.Needs.{needs}
 use Rattle.script.proofs.call.Statement.{statement}
 use Rattle.script.proofs.call.Tie as tie
 use Rattle.script.proofs.call.Reads as reads
 use Rattle.script.proofs.call.Lts as lts
 use Rattle.script.proofs.close.Reads as close-reads
-use Rattle.script.proofs.deliver.Reads as deliver-reads
 use Rattle.script.proofs.open.Reads as open-reads
+use Rattle.script.proofs.send.Reads as send-reads
 use Rattle.script.proofs.take.Reads as take-reads
 use Rattle.script.proofs.tick.Reads as tick-reads
 
@@ -67,8 +67,8 @@ returns-4 c =
     let a = c .before .before .before .before .before .before .before .before .before .before .before .before .before .before .args in
     rw (is-take (a .kind) (a .n) (a .value) (a .piece .now) (a .output .now) (omega arith)) (search needs)
 
-deliver-requires : tie.Need-deliver-requires
-deliver-requires c κs = search needs
+send-requires : tie.Need-send-requires
+send-requires c κs = search needs
 
 same-length-9 : tie.Need-same-length-9
 same-length-9 c = search needs
@@ -79,7 +79,7 @@ same-length-10 c = search needs
 returns-5 : tie.Need-returns-5
 returns-5 c =
     let a = c .before .before .before .before .before .before .before .before .before .before .before .before .before .before .args in
-    rw (is-deliver (a .kind) (a .n) (a .value) (a .piece .now) (a .output .now) (omega arith)) (search needs)
+    rw (is-sent (a .kind) (a .n) (a .value) (a .piece .now) (a .output .now) (omega arith)) (search needs)
 
 pub call-spec : {M : Type 1} → statement M
 call-spec =
@@ -101,7 +101,7 @@ call-spec =
     same-length-7
     same-length-8
     returns-4
-    deliver-requires
+    send-requires
     same-length-9
     same-length-10
     returns-5)

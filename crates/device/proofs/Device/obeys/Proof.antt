@@ -18,6 +18,9 @@ all-mute-values-requires c κs = search needs
 all-obey-requires-3 : tie.Need-all-obey-requires-3
 all-obey-requires-3 c κs = search needs
 
+obeys-requires : tie.Need-obeys-requires
+obeys-requires c κs = search needs
+
 returns : tie.Need-returns
 unfolding deviceObeys
 returns c = cc
@@ -31,4 +34,5 @@ obeys-spec =
     all-apart-requires
     all-mute-values-requires
     all-obey-requires-3
+    obeys-requires
     returns)

@@ -1,0 +1,269 @@
+-- A channel that nobody asks for stays free. Assumes nothing.
+use Prim.Native.Nat.{ℕ, zero, suc, _+_, _-_, _^_, _≤_, _<_}
+use mathlib.Core.Path.{_≡_, refl, sym, ap, _∙_}
+use mathlib.Core.Bool.{Bool, cond, true, false, not, _&&_, _||_}
+use mathlib.Core.List.{List, [], _∷_, map}
+use native.Mathlib.Omega.{arith}
+use native.Mathlib.Decide.{decLe}
+use borrow.Author.Tests.{eqb-true, eqb-false, eq-eqb, ne-eqb, not-true, not-false, lt-ltb}
+use lib.Dec.{eqb, ltb, leb}
+use lib.ListN.{length, getD, set, take, drop, replicate, List·getD-map}
+use lib.Seq.{getD-set-same, getD-set-other, set-out}
+use Rattle.laws.specs.Lists.{all, any, mask}
+use Rattle.laws.proofs.Conds.{and-left, and-right, cond-right, either}
+use Rattle.laws.proofs.Tables.{clash, or-neither}
+use Rattle.octets.specs.Zeros.{zeros}
+use Rattle.frame.specs.Limits.{headerEnd, notification}
+use Rattle.frame.specs.Header.{pduType, messageCount}
+use Rattle.frame.specs.Entry.{entrySize}
+use Rattle.frame.specs.Decide.{decide}
+use Rattle.frame.specs.declared.Decision.{Decision}
+use Rattle.frame.specs.declared.Decision.the-variants.{Undecided, Faulty, Sound}
+use Rattle.fields.specs.Place.{parametersOf}
+use Rattle.fields.specs.Fields.{commandOf, heartbeatOf}
+use Rattle.area.specs.Area.{areaBytes}
+use Rattle.mechanism.specs.Arguments.{armedBy}
+use Rattle.mechanism.specs.Datagram as datagrams
+use Rattle.connection.specs.State.{connectionCount, liveAt, isFree, lowestDue}
+use Rattle.connection.specs.Supervision.{fitsStep, closesAt, tickedOf}
+use Rattle.connection.specs.declared.Connection.{Connection}
+use Rattle.subscription.specs.State.{entryCount, free, isMute, twinAt, lowestUnused, lowestWaiting}
+use Rattle.objects.specs.Methods.{methodNumber, lockMethod, unlockMethod, setMethod, addMethod, removeMethod, resetKeyMethod, placeOf, isManager, isObject, isLocking, hasMethod}
+use Rattle.objects.specs.Tests.{isForbidden, isMalformed, entryOf}
+use Rattle.objects.specs.Answers.{failedOf, toldOf}
+use Rattle.holders.specs.Holders.{ownerOf, isOther, holderObeys, sweptHolder}
+use Rattle.device.specs.State.{muteCount, freshOf, withConnections, withSubscriptions, withHolders, withMechanism, openOf, sweepOf, closeOf, heardAt, sentAt, toldAt, beatingAt}
+use Rattle.device.specs.Time.{stepOf, advanced, tickBy, tickOf}
+use Rattle.device.specs.Run.{muteAt, statusOf, mutedOf, doneOf, answerOf, unchanged, ranBy}
+use Rattle.device.specs.Run as commands
+use Rattle.device.specs.declared.Device.{Device}
+use Rattle.device.specs.declared.Opened.{Opened}
+use Rattle.device.specs.declared.Opening.{Opening}
+use Rattle.device.specs.declared.Opening.the-variants as opens
+use Rattle.device.specs.declared.Ticked.{Ticked}
+use Rattle.device.specs.declared.Ticking.{Ticking}
+use Rattle.device.specs.declared.Ticking.the-variants as ticks
+use Rattle.device.specs.declared.Ran.{Ran}
+use Rattle.device.proofs.Closures.{free-locks}
+use Rattle.device.proofs.Shapes.{target-is}
+use Rattle.device.proofs.Commands.{lock-other, lock-done}
+use Rattle.serve.specs.Serve.{ranWith, ranFirst, lastOf}
+use Rattle.rules.specs.Rule.{Ruled, commandsOf, beatOf, soundOf}
+use Rattle.stream.specs.Machine.{Call, deliver, ask, message, asked, none-held, glue, rules}
+use Rattle.stream.specs.Promise.{AllBytes}
+use Rattle.stream.specs.Lent.{flat, counted}
+use Rattle.endpoint.specs.State.{stateOf, freshState}
+use Rattle.endpoint.specs.Numbers.{Outcome, outcome}
+use Rattle.endpoint.specs.Deliver.{leastOutput}
+use Rattle.endpoint.specs.Take.{notifiedOf, sentOut, notifying, reminding, takenBy}
+use Rattle.endpoint.specs.Datagram.{datagramCall}
+use Rattle.endpoint.specs.declared.Record.{Record}
+use Rattle.promise.specs.Rules as ruling
+use Rattle.promise.specs.Rules.{Ask, opening, closing, ticking, taking, datagram, Asked, Given, messageBy, openBy, closeBy, takeBy, resetBy, rule, shut}
+use Rattle.promise.specs.Stream.{runOf, machine}
+use Rattle.promise.specs.Technician.{lockStatus}
+use Rattle.promise.specs.Reset.{asksWith, asksOver, asksIn, asksFor, nobodyAsks, aReset, RackFreeAgain}
+use Rattle.promise.proofs.Keeps.{stream-theorem}
+use Rattle.promise.proofs.Resets.{leaves}
+use Rattle.promise.proofs.Technicians.{locked-out}
+
+-- ---- a holder at a place
+swept-none : (cs : List Connection) → sweptHolder cs 0 ≡ 0
+unfolding sweptHolder
+swept-none cs = either (λ (x : ℕ). x ≡ 0) (holderObeys cs 0) 0 0 refl refl
+
+swept-free : (cs : List Connection) (hs : List ℕ) (at : ℕ) → getD hs at 0 ≡ 0 → getD (map (sweptHolder cs) hs) at 0 ≡ 0
+swept-free cs hs at e =
+    ap (λ (z : ℕ). getD (map (sweptHolder cs) hs) at z) (sym (swept-none cs)) ∙ List·getD-map (sweptHolder cs) hs at 0 ∙ ap (sweptHolder cs) e ∙ swept-none cs
+
+unlocked-free : (hs : List ℕ) (p at : ℕ) → getD hs at 0 ≡ 0 → getD (set hs p 0) at 0 ≡ 0
+unlocked-free hs p at e = go (eqb at p) refl
+  where
+    here : at ≡ p → Dec (length hs ≤ p) → getD (set hs p 0) at 0 ≡ 0
+    here q (yes f) = rw (set-out hs p 0 f) e
+    here q (no f) = rw (q, getD-set-same hs p 0 0 (omega arith))
+
+    go : (b : Bool) → eqb at p ≡ b → getD (set hs p 0) at 0 ≡ 0
+    go true q = here (eqb-true at p q) (decLe (length hs) p)
+    go false q = getD-set-other hs p at 0 0 (eqb-false at p q) ∙ e
+
+-- ---- a command
+-- a lock with status 0 is that of a mute
+lock-mute : (d : Device) (n t count : ℕ) (part : List ℕ) → statusOf d n t lockMethod count part ≡ 0 → isMute t ≡ true
+unfolding statusOf isForbidden isObject isLocking
+lock-mute d n t count part e =
+    let o = cond-right (not (isObject t)) 5 _ 0 e (λ z. omega arith) in
+    let h = cond-right (not (hasMethod t lockMethod)) 11 _ 0 (o .1) (λ z. omega arith) in
+    let f = cond-right (isForbidden t lockMethod) 8 _ 0 (h .1) (λ z. omega arith) .0 in
+    let m : (isManager t || isMute t) ≡ true = not-false (isObject t) (o .0) in
+    rw f at m
+
+module _ (d : Device) (at : ℕ) (e : getD (d .holders) at 0 ≡ 0) where
+  done-free : (n t m count : ℕ) (part : List ℕ) → statusOf d n t m count part ≡ 0 → (eqb t (4097 + at) && eqb m lockMethod) ≡ false → getD (doneOf d n t m part .holders) at 0 ≡ 0
+  unfolding doneOf mutedOf
+  done-free n t m count part s a = go (eqb m lockMethod) refl
+    where
+      P : Device → Type 0
+      P x = getD (x .holders) at 0 ≡ 0
+
+      others : getD (cond (eqb m unlockMethod) (withHolders d (set (d .holders) (placeOf t) 0))
+          (cond (eqb m setMethod) (mutedOf d t (getD part 0 0))
+          (cond (eqb m addMethod) (withSubscriptions d (set (d .subscriptions) (lowestUnused (d .subscriptions)) (entryOf n part)))
+          (cond (eqb m removeMethod) (withSubscriptions d (set (d .subscriptions) (twinAt (entryOf n part) (d .subscriptions)) free))
+          (cond (eqb m resetKeyMethod) (withMechanism d (armedBy part))
+          d)))) .holders) at 0 ≡ 0
+      others =
+          either P (eqb m unlockMethod) _ _ (unlocked-free (d .holders) (placeOf t) at e)
+          (either P (eqb m setMethod) _ _ (either P (eqb (muteAt d t) (getD part 0 0)) _ _ e e)
+          (either P (eqb m addMethod) _ _ e (either P (eqb m removeMethod) _ _ e (either P (eqb m resetKeyMethod) _ _ e e))))
+
+      elsewhere : eqb m lockMethod ≡ true → (at ≡ placeOf t → ⊥)
+      elsewhere q p =
+          let k : statusOf d n t lockMethod count part ≡ 0 = ap (λ (j : ℕ). statusOf d n t j count part) (sym (eqb-true m lockMethod q)) ∙ s in
+          let u = target-is t at (lock-mute d n t count part k) p in
+          clash ⊥ (eqb t (4097 + at) && eqb m lockMethod) (rw (eq-eqb t (4097 + at) (sym u), q)) a
+
+      go : (b : Bool) → eqb m lockMethod ≡ b
+          → getD (cond b (withHolders d (set (d .holders) (placeOf t) (ownerOf n)))
+          (cond (eqb m unlockMethod) (withHolders d (set (d .holders) (placeOf t) 0))
+          (cond (eqb m setMethod) (mutedOf d t (getD part 0 0))
+          (cond (eqb m addMethod) (withSubscriptions d (set (d .subscriptions) (lowestUnused (d .subscriptions)) (entryOf n part)))
+          (cond (eqb m removeMethod) (withSubscriptions d (set (d .subscriptions) (twinAt (entryOf n part) (d .subscriptions)) free))
+          (cond (eqb m resetKeyMethod) (withMechanism d (armedBy part))
+          d))))) .holders) at 0 ≡ 0
+      go true q = getD-set-other (d .holders) (placeOf t) at (ownerOf n) 0 (elsewhere q) ∙ e
+      go false q = others
+
+  run-free : (n t m count : ℕ) (part : List ℕ) → (eqb t (4097 + at) && eqb m lockMethod) ≡ false → getD (commands.runOf d n t m count part .device .holders) at 0 ≡ 0
+  unfolding commands.runOf ranBy
+  run-free n t m count part a = go (eqb (statusOf d n t m count part) 0) refl
+    where
+      go : (b : Bool) → eqb (statusOf d n t m count part) 0 ≡ b
+          → getD (cond {A = Ran} b (record { device = doneOf d n t m part; answer = answerOf d t m }) (unchanged d (failedOf (statusOf d n t m count part))) .device .holders) at 0 ≡ 0
+      go true q = done-free n t m count part (eqb-true _ 0 q) a
+      go false q = e
+
+-- ---- a message
+last-free : (j : ℕ) (d : Device) (at n kind : ℕ) (t : List ℕ) → getD (d .holders) at 0 ≡ 0 → asksOver j at kind t ≡ false → getD (lastOf j d n kind t .holders) at 0 ≡ 0
+unfolding lastOf asksOver asksWith ranFirst ranWith
+last-free zero d at n kind t e a = e
+last-free (suc j) d at n kind t e a =
+    let k = or-neither (asksWith at (commandOf (take (entrySize kind t) t))) (asksOver j at kind (drop (entrySize kind t) t)) a in
+    last-free j (ranFirst d n kind t .device) at n kind (drop (entrySize kind t) t) (run-free d at e n _ _ _ _ (k .0)) (k .1)
+
+sound-free : (d : Device) (at n : ℕ) (m : List ℕ) → getD (d .holders) at 0 ≡ 0 → (ltb (pduType m) notification && asksOver (messageCount m) at (pduType m) (drop headerEnd m)) ≡ false
+    → getD (soundOf d n m .device .holders) at 0 ≡ 0
+unfolding soundOf commandsOf beatOf beatingAt heardAt sentAt
+sound-free d at n m e a =
+    either P (eqb (pduType m) 4) _ _ (either (λ (x : Device). getD (x .holders) at 0 ≡ 0) (liveAt (d .connections) n) _ _ e e) (go (ltb (pduType m) notification) a)
+  where
+    P : Ruled → Type 0
+    P x = getD (x .device .holders) at 0 ≡ 0
+
+    go : (b : Bool) → (b && asksOver (messageCount m) at (pduType m) (drop headerEnd m)) ≡ false
+        → getD (cond {A = Ruled} b (commandsOf (heardAt d n) n (pduType m) (messageCount m) (drop headerEnd m)) (record { device = heardAt d n; reply = [] }) .device .holders) at 0 ≡ 0
+    go true q =
+        let l = last-free (messageCount m) (heardAt d n) at n (pduType m) (drop headerEnd m) e q in
+        either P (eqb (pduType m) 0) _ _ l l
+    go false q = e
+
+-- ---- a call
+fresh-free : (reading at : ℕ) → getD (freshOf reading .holders) at 0 ≡ 0
+unfolding freshOf
+fresh-free reading at = zeros-at muteCount at
+  where
+    zeros-at : (n i : ℕ) → _≡_ {A = ℕ} (getD (replicate n 0) i 0) 0
+    zeros-at zero i = refl
+    zeros-at (suc n) zero = refl
+    zeros-at (suc n) (suc i) = zeros-at n i
+
+whole-free : (d : Device) (at : ℕ) (w : Asked) → getD (d .holders) at 0 ≡ 0 → asksFor at w ≡ false → getD (rule d w .0 .holders) at 0 ≡ 0
+unfolding rule asksFor asksIn messageBy openBy closeBy ruling.tickBy takeBy resetBy takenBy notifying reminding sentOut notifiedOf sentAt toldAt openOf closeOf sweepOf tickBy
+whole-free d at (message n m out) e a = go (decide m) a
+  where
+    go : (x : Decision) → asksIn x at m ≡ false → getD (messageBy x d n m out .0 .holders) at 0 ≡ 0
+    go Undecided q = e
+    go (Faulty f t) q = swept-free _ (d .holders) at e
+    go (Sound t) q = sound-free d at n m e q
+whole-free d at (asked opening) e a = go (openOf d .answer)
+  where
+    P : Opened → Type 0
+    P o = getD (o .device .holders) at 0 ≡ 0
+
+    go : (x : Opening) → getD (openBy x d (openOf d .device) .0 .holders) at 0 ≡ 0
+    go (opens.Number n) = either P (any isFree (d .connections)) _ _ e e
+    go opens.Full = e
+whole-free d at (asked (closing n)) e a = go (liveAt (d .connections) n)
+  where
+    go : (b : Bool) → getD (closeBy b d n .0 .holders) at 0 ≡ 0
+    go true = swept-free _ (d .holders) at e
+    go false = e
+whole-free d at (asked (ticking reading)) e a = go (tickOf d reading .answer)
+  where
+    P : Ticked → Type 0
+    P o = getD (o .device .holders) at 0 ≡ 0
+
+    go : (x : Ticking) → getD (ruling.tickBy x d (tickOf d reading .device) .0 .holders) at 0 ≡ 0
+    go (ticks.Closed k) =
+        either P (leb (2 ^ 31) (stepOf reading (d .reading))) _ _ e
+        (either P (all (fitsStep (stepOf reading (d .reading))) (d .connections)) _ _ (swept-free _ (d .holders) at e) e)
+    go ticks.ClockBack = e
+    go ticks.Overrun = e
+whole-free d at (asked (taking out)) e a = go (ltb (length out) leastOutput)
+  where
+    P : Outcome → Type 0
+    P o = getD (o .state .device .holders) at 0 ≡ 0
+
+    go : (b : Bool) → getD (takeBy b d out .0 .holders) at 0 ≡ 0
+    go true = e
+    go false = either P (ltb (lowestWaiting (d .subscriptions)) entryCount) _ _ e (either P (ltb (lowestDue (d .connections)) connectionCount) _ _ e e)
+whole-free d at (asked (datagram g)) e a = go (datagrams.resets (d .mechanism) g)
+  where
+    go : (b : Bool) → getD (resetBy b d .0 .holders) at 0 ≡ 0
+    go true = fresh-free (d .reading) at
+    go false = e
+
+rules-free : (d : Device) (at : ℕ) (ws : List Asked) → getD (d .holders) at 0 ≡ 0 → nobodyAsks at ws ≡ true → getD (rules rule d ws .0 .holders) at 0 ≡ 0
+unfolding rules nobodyAsks
+rules-free d at [] e a = e
+rules-free d at (w ∷ ws) e a =
+    rules-free (rule d w .0) at ws (whole-free d at w e (not-true (asksFor at w) (and-left (not (asksFor at w)) _ a))) (and-right (not (asksFor at w)) _ a)
+
+calls-free : (reading : ℕ) (cs : List (Call Ask (List ℕ))) → AllBytes cs → (at : ℕ) → nobodyAsks at (glue shut none-held (machine (freshOf reading) none-held cs .1) .0) ≡ true
+    → getD (runOf (freshState reading) (zeros areaBytes) cs .0 .0 .device .holders) at 0 ≡ 0
+calls-free reading cs b at a =
+    let d = freshOf reading in
+    let good = stream-theorem .fresh reading in
+    let same : runOf (freshState reading) (zeros areaBytes) cs ≡ runOf (stateOf d (counted none-held 8)) (flat none-held 8) cs =
+    rw (stream-theorem .freshState reading, stream-theorem .freshArea) refl in
+    ap (λ (x : (Record × List ℕ) × List Outcome). getD (x .0 .0 .device .holders) at 0) (same ∙ stream-theorem .real d none-held cs good b)
+    ∙ sym (ap (λ (x : Device × List Given). getD (x .0 .holders) at 0) (stream-theorem .whole d none-held cs good b .same))
+    ∙ rules-free d at (glue shut none-held (machine d none-held cs .1) .0) (fresh-free reading at) a
+
+-- ---- after a reset
+unheld : (r : Record) (area g : List ℕ) → datagramCall r area g .answer ≡ aReset → (at : ℕ) → getD (datagramCall r area g .state .device .holders) at 0 ≡ 0
+unfolding freshState
+unheld r area g a at = ap (λ (x : Record). getD (x .device .holders) at 0) (leaves r area g a .0) ∙ fresh-free (r .device .reading) at
+
+-- a lock that gets status 0 is held by whom asked
+lock-holder : (d : Device) (k at : ℕ) → k < 8 → at < length (d .holders) → at < 8 → lockStatus d k at ≡ 0
+    → getD (commands.runOf d k (4097 + at) lockMethod 0 [] .device .holders) at 0 ≡ k + 1
+unfolding ownerOf failedOf
+lock-holder d k at l h e s = go (isOther (getD (d .holders) at 0) k) refl
+  where
+    go : (b : Bool) → isOther (getD (d .holders) at 0) k ≡ b → getD (commands.runOf d k (4097 + at) lockMethod 0 [] .device .holders) at 0 ≡ k + 1
+    go true q =
+        let w : lockStatus d k at ≡ 3 = ap (λ (x : Ran). x .answer .status) (sym (lock-other d k at e (isOther (getD (d .holders) at 0) k) refl q (failedOf 3) refl)) in
+        absurd (omega (arith, s, w))
+    go false q =
+        ap (λ (x : Ran). getD (x .device .holders) at 0) (sym (lock-done d k at e (isOther (getD (d .holders) at 0) k) refl q (k + 1) (rw (lt-ltb k 8 l)) (toldOf []) refl))
+        ∙ getD-set-same (d .holders) at (k + 1) 0 h
+
+pub rack-free-again : RackFreeAgain
+rack-free-again =
+    record {
+      unheld = unheld;
+      free = λ r area g a k at h. free-locks (datagramCall r area g .state .device) k at h (unheld r area g a at);
+      first = λ reading cs b k at h a. free-locks _ k at h (calls-free reading cs b at a);
+      holds = λ d k j at l h e s n. locked-out _ k j at n (omega arith) (lock-holder d k at l h (omega arith) s);
+    }

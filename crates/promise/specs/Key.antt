@@ -1,0 +1,135 @@
+-- Whose key counts, and who learns of it: document 02 (ii), "The latest key counts; it is the device's, not the connection's, and a
+-- closure leaves it".
+use Prim.Native.Nat.{ℕ, zero, suc}
+use mathlib.Core.Path.{_≡_}
+use mathlib.Core.Bool.{Bool, cond, true, false, not, _&&_}
+use mathlib.Core.List.{List, [], _∷_, map}
+use lib.ListN.{take, drop}
+use lib.Dec.{eqb, ltb}
+use Rattle.frame.specs.Limits.{headerEnd, notification}
+use Rattle.frame.specs.Header.{pduType, messageCount}
+use Rattle.frame.specs.Entry.{entrySize}
+use Rattle.frame.specs.Decide.{decide}
+use Rattle.frame.specs.declared.Decision.{Decision}
+use Rattle.frame.specs.declared.Decision.the-variants.{Undecided, Faulty, Sound}
+use Rattle.fields.specs.Place.{parametersOf}
+use Rattle.fields.specs.Fields.{commandOf}
+use Rattle.fields.specs.declared.CommandFields.{CommandFields}
+use Rattle.mechanism.specs.State.{disarmed, withKey}
+use Rattle.mechanism.specs.Arguments.{isUntaken, armedBy}
+use Rattle.mechanism.specs.Datagram.{resets}
+use Rattle.mechanism.specs.declared.Mechanism.{Mechanism}
+use Rattle.objects.specs.Methods.{methodNumber, deviceManager, resetKeyMethod}
+use Rattle.objects.specs.Tests.{isMalformed}
+use Rattle.device.specs.State.{withMechanism}
+use Rattle.device.specs.Run.{statusOf}
+use Rattle.device.specs.Run as commands
+use Rattle.device.specs.declared.Device.{Device}
+use Rattle.stream.specs.Machine.{Call, deliver, ask, message, asked, Held, glue}
+use Rattle.stream.specs.Promise.{AllBytes}
+use Rattle.stream.specs.Lent.{flat, counted}
+use Rattle.endpoint.specs.State.{stateOf}
+use Rattle.endpoint.specs.Numbers.{Outcome}
+use Rattle.endpoint.specs.declared.Record.{Record}
+use Rattle.promise.specs.Rules.{Ask, opening, closing, ticking, taking, datagram, Asked, rule, shut, callOf}
+use Rattle.promise.specs.Stream.{runOf, machine, GoodState}
+
+-- ---- the latest key
+
+-- 3.14 of object 1 whose arguments are taken
+unfoldable pub isArming : ℕ → ℕ → ℕ → List ℕ → Bool
+isArming target m count part =
+    eqb target deviceManager && (eqb m resetKeyMethod && (not (isMalformed m count part) && not (isUntaken part)))
+
+-- the mechanism after a command
+unfoldable pub keyedBy : Mechanism → ℕ → ℕ → ℕ → List ℕ → Mechanism
+keyedBy k target m count part = cond (isArming target m count part) (armedBy part) k
+
+-- after the command of these fields and this part
+unfoldable pub keyedWith : Mechanism → CommandFields → List ℕ → Mechanism
+keyedWith k c part = keyedBy k (c .target) (methodNumber (c .method .level) (c .method .index)) (c .count) part
+
+-- after so many entries of a message
+unfoldable pub keyedOver : ℕ → Mechanism → ℕ → List ℕ → Mechanism
+keyedOver zero k kind t = k
+keyedOver (suc j) k kind t =
+    keyedOver j (keyedWith k (commandOf (take (entrySize kind t) t)) (parametersOf kind (take (entrySize kind t) t))) kind (drop (entrySize kind t) t)
+
+-- after a sound message: commands alone touch it
+unfoldable pub keyedIn : Mechanism → List ℕ → Mechanism
+keyedIn k m = cond (ltb (pduType m) notification) (keyedOver (messageCount m) k (pduType m) (drop headerEnd m)) k
+
+unfoldable pub keyedMessage : Decision → Mechanism → List ℕ → Mechanism
+keyedMessage Undecided k m = k
+keyedMessage (Faulty fault t) k m = k
+keyedMessage (Sound t) k m = keyedIn k m
+
+-- after a call of the rules
+unfoldable pub latest : Mechanism → Asked → Mechanism
+latest k (message n m out) = keyedMessage (decide m) k m
+latest k (asked opening) = k
+latest k (asked (closing n)) = k
+latest k (asked (ticking reading)) = k
+latest k (asked (taking out)) = k
+latest k (asked (datagram g)) = cond (resets k g) disarmed k
+
+-- after calls one after another
+unfoldable pub latestOver : Mechanism → List Asked → Mechanism
+latestOver k [] = k
+latestOver k (w ∷ ws) = latestOver (latest k w) ws
+
+pub record LatestKeyCounts : Type 0 where
+  -- a command arms exactly where it is 3.14 of object 1 and gets status 0
+  pub arming : (d : Device) (n target m count : ℕ) (part : List ℕ)
+      → isArming target m count part ≡ (eqb target deviceManager && (eqb m resetKeyMethod && eqb (statusOf d n target m count part) 0))
+  -- then key, address and port are those of its arguments, whatever they were; any other command leaves them
+  pub command : (d : Device) (n target m count : ℕ) (part : List ℕ)
+      → commands.runOf d n target m count part .device .mechanism ≡ keyedBy (d .mechanism) target m count part
+  -- a whole call: commands and a reset change the mechanism, and nothing else does
+  pub whole : (d : Device) (w : Asked) → rule d w .0 .mechanism ≡ latest (d .mechanism) w
+  -- any list of calls, from any state that keeps the rules: the mechanism is that of the whole calls, one after another
+  pub calls : (d : Device) (h : Held) (cs : List (Call Ask (List ℕ))) → GoodState d h → AllBytes cs
+      → runOf (stateOf d (counted h 8)) (flat h 8) cs .0 .0 .device .mechanism ≡ latestOver (d .mechanism) (glue shut h (machine d h cs .1) .0)
+
+-- ---- the key stays inside
+
+-- a record with another key
+abbrev pub rekeyed : Record → List ℕ → Record
+rekeyed r key = stateOf (withMechanism (r .device) (withKey (r .device .mechanism) key)) (r .held)
+
+-- two armed records that are alike but for their keys
+pub record AlikeButKey (r s : Record) : Type 0 where
+  pub armed : r .device .mechanism .armed ≡ true
+  pub alike : s ≡ rekeyed r (s .device .mechanism .key)
+
+-- what is seen of a call: its answer, and each byte of the area and the output
+pub record Seen : Type 0 where
+  pub answer : List ℕ
+  pub area : List ℕ
+  pub output : List ℕ
+
+abbrev pub seen : Outcome → Seen
+seen o = record { answer = o .answer; area = o .area; output = o .output }
+
+unfoldable pub isDatagram : Call Ask (List ℕ) → Bool
+isDatagram (deliver n piece out) = false
+isDatagram (ask opening) = false
+isDatagram (ask (closing n)) = false
+isDatagram (ask (ticking reading)) = false
+isDatagram (ask (taking out)) = false
+isDatagram (ask (datagram g)) = true
+
+unfoldable pub noDatagram : List (Call Ask (List ℕ)) → Bool
+noDatagram [] = true
+noDatagram (c ∷ cs) = not (isDatagram c) && noDatagram cs
+
+pub record KeyStaysInside : Type 0 where
+  -- every call but the datagram, an arming too: nothing that is seen tells the keys apart, and the records are again alike but for them
+  pub call : (r s : Record) (area : List ℕ) (c : Call Ask (List ℕ)) → AlikeButKey r s → isDatagram c ≡ false
+      → (seen (callOf r area c) ≡ seen (callOf s area c)) × AlikeButKey (callOf r area c .state) (callOf s area c .state)
+  -- so for any list of them
+  pub calls : (r s : Record) (area : List ℕ) (cs : List (Call Ask (List ℕ))) → AlikeButKey r s → noDatagram cs ≡ true
+      → (map seen (runOf r area cs .1) ≡ map seen (runOf s area cs .1)) × AlikeButKey (runOf r area cs .0 .0) (runOf s area cs .0 .0)
+  -- and of a datagram nothing is seen but whether it was the key
+  pub guess : (r s : Record) (area g : List ℕ) → AlikeButKey r s → resets (r .device .mechanism) g ≡ false → resets (s .device .mechanism) g ≡ false
+      → seen (callOf r area (ask (datagram g))) ≡ seen (callOf s area (ask (datagram g)))

@@ -1,0 +1,114 @@
+-- Reset by key: document 02 (ii), "A technician at the front desk wants to restart a rack whose controllers have all hung".
+use Prim.Native.Nat.{ℕ, zero, suc, _+_, _<_}
+use mathlib.Core.Path.{_≡_}
+use mathlib.Core.Bool.{Bool, true, false, not, _&&_, _||_}
+use mathlib.Core.List.{List, [], _∷_, _++_}
+use lib.Dec.{eqb, ltb}
+use lib.ListN.{length, getD, take, drop}
+use Rattle.octets.specs.Zeros.{zeros}
+use Rattle.frame.specs.Limits.{headerEnd, notification}
+use Rattle.frame.specs.Header.{pduType, messageCount}
+use Rattle.frame.specs.Entry.{entrySize}
+use Rattle.frame.specs.Decide.{decide}
+use Rattle.frame.specs.declared.Decision.{Decision}
+use Rattle.frame.specs.declared.Decision.the-variants.{Undecided, Faulty, Sound}
+use Rattle.fields.specs.Fields.{commandOf}
+use Rattle.fields.specs.declared.CommandFields.{CommandFields}
+use Rattle.area.specs.Area.{areaBytes, areaSound}
+use Rattle.mechanism.specs.State.{keyBytes, disarmed}
+use Rattle.mechanism.specs.Datagram as mechanism
+use Rattle.mechanism.specs.Datagram.{sentinel}
+use Rattle.connection.specs.State.{connectionCount, liveAt}
+use Rattle.subscription.specs.State.{firstMute}
+use Rattle.objects.specs.Methods.{methodNumber, lockMethod}
+use Rattle.device.specs.State.{muteCount, freshOf}
+use Rattle.device.specs.Run as commands
+use Rattle.device.specs.declared.Device.{Device}
+use Rattle.stream.specs.Machine.{Call, ask, message, asked, Held, none-held, step, glue}
+use Rattle.stream.specs.Promise.{AllBytes}
+use Rattle.endpoint.specs.State.{freshState, recordObeys}
+use Rattle.endpoint.specs.Numbers.{badRecord, badArea, Outcome, outcome, refused}
+use Rattle.endpoint.specs.Datagram.{restarted, datagramCall}
+use Rattle.endpoint.specs.declared.Record.{Record}
+use Rattle.promise.specs.Rules.{Ask, datagram, Asked, rule, open?, admit, shut}
+use Rattle.promise.specs.Stream.{runOf, machine}
+use Rattle.promise.specs.Technician.{lockStatus}
+
+-- what a datagram needs to reset: a record and an area that rows 1 and 2 let pass, a mechanism that is armed, the sentinel and its key
+pub record Matches (r : Record) (area g : List ℕ) : Type 0 where
+  pub obeys : recordObeys r ≡ true
+  pub sound : areaSound (r .held) area ≡ true
+  pub armed : r .device .mechanism .armed ≡ true
+  pub bytes : g ≡ sentinel ++ r .device .mechanism .key
+
+-- the answer to a reset
+abbrev pub aReset : List ℕ
+aReset = 0 ∷ 1 ∷ []
+
+pub record ResetByKey : Type 0 where
+  -- "resets if the mechanism is armed and the key matches", and exactly then
+  pub resets : (r : Record) (area g : List ℕ) → Matches r area g → datagramCall r area g .answer ≡ aReset
+  pub only : (r : Record) (area g : List ℕ) → datagramCall r area g .answer ≡ aReset → Matches r area g
+  -- "A datagram of exactly 24 bytes"
+  pub long : (r : Record) (area g : List ℕ) → length (r .device .mechanism .key) ≡ keyBytes → datagramCall r area g .answer ≡ aReset → length g ≡ 24
+  -- "After the reset the record is a fresh one at the last reading, the area zero and the mechanism disarmed"
+  pub leaves : (r : Record) (area g : List ℕ) → datagramCall r area g .answer ≡ aReset
+      → (datagramCall r area g .state ≡ freshState (r .device .reading)) × (datagramCall r area g .area ≡ zeros areaBytes)
+  pub disarms : (reading : ℕ) → freshState reading .device .mechanism ≡ disarmed
+  -- the same datagram again does nothing
+  pub once : (reading : ℕ) (area g : List ℕ) → (datagramCall (freshState reading) area g .answer ≡ aReset → ⊥)
+  -- "any other changes nothing"
+  pub otherwise : (r : Record) (area g : List ℕ) → (datagramCall r area g .answer ≡ aReset → ⊥)
+      → (datagramCall r area g .state ≡ r) × (datagramCall r area g .area ≡ area)
+  -- "the datagram call gives 1 and 2 alone"
+  pub first : (r : Record) (area g : List ℕ) → recordObeys r ≡ false → datagramCall r area g ≡ refused badRecord r area []
+  pub second : (r : Record) (area g : List ℕ) → recordObeys r ≡ true → areaSound (r .held) area ≡ false → datagramCall r area g ≡ refused badArea r area []
+  pub third : (r : Record) (area g : List ℕ) → recordObeys r ≡ true → areaSound (r .held) area ≡ true → (datagramCall r area g .answer ≡ aReset → ⊥)
+      → datagramCall r area g ≡ outcome (0 ∷ 0 ∷ []) r area []
+  -- "demand 3 counts anew from there": what follows a reset is what follows a fresh record and a zeroed area
+  pub anew : (r : Record) (area g : List ℕ) (cs : List (Call Ask (List ℕ))) → datagramCall r area g .answer ≡ aReset
+      → runOf r area (ask (datagram g) ∷ cs)
+      ≡ (runOf (freshState (r .device .reading)) (zeros areaBytes) cs .0, restarted r ∷ runOf (freshState (r .device .reading)) (zeros areaBytes) cs .1)
+  -- over whole messages too: no undecided byte is held, and no connection is open
+  pub nobody : (d : Device) (h : Held) (g : List ℕ) → mechanism.resets (d .mechanism) g ≡ true
+      → step rule open? admit d h (ask (datagram g)) .0 ≡ (freshOf (d .reading), none-held)
+  pub shutAll : (reading n : ℕ) → liveAt (freshOf reading .connections) n ≡ false
+
+-- ---- the channels after a reset
+
+-- of so many entries, one is the lock (1.3) of the channel at that place
+unfoldable pub asksWith : ℕ → CommandFields → Bool
+asksWith at c = eqb (c .target) (firstMute + at) && eqb (methodNumber (c .method .level) (c .method .index)) lockMethod
+
+unfoldable pub asksOver : ℕ → ℕ → ℕ → List ℕ → Bool
+asksOver zero at kind t = false
+asksOver (suc j) at kind t = asksWith at (commandOf (take (entrySize kind t) t)) || asksOver j at kind (drop (entrySize kind t) t)
+
+-- a message in which a lock of that channel is asked for; a call of the rules
+unfoldable pub asksIn : Decision → ℕ → List ℕ → Bool
+asksIn Undecided at m = false
+asksIn (Faulty fault t) at m = false
+asksIn (Sound t) at m = ltb (pduType m) notification && asksOver (messageCount m) at (pduType m) (drop headerEnd m)
+
+unfoldable pub asksFor : ℕ → Asked → Bool
+asksFor at (message n m out) = asksIn (decide m) at m
+asksFor at (asked a) = false
+
+-- none of these calls asks for it
+unfoldable pub nobodyAsks : ℕ → List Asked → Bool
+nobodyAsks at [] = true
+nobodyAsks at (w ∷ ws) = not (asksFor at w) && nobodyAsks at ws
+
+-- "can he restart a rack from his chair?": after a reset
+pub record RackFreeAgain : Type 0 where
+  -- no channel is held, and whoever then asks for a channel's lock gets it
+  pub unheld : (r : Record) (area g : List ℕ) → datagramCall r area g .answer ≡ aReset → (at : ℕ) → getD (datagramCall r area g .state .device .holders) at 0 ≡ 0
+  pub free : (r : Record) (area g : List ℕ) → datagramCall r area g .answer ≡ aReset → (k at : ℕ) → at < muteCount
+      → lockStatus (datagramCall r area g .state .device) k at ≡ 0
+  -- whatever calls come after it, as long as no message asks for a channel, the first to ask for it gets it
+  pub first : (reading : ℕ) (cs : List (Call Ask (List ℕ))) → AllBytes cs → (k at : ℕ) → at < muteCount
+      → nobodyAsks at (glue shut none-held (machine (freshOf reading) none-held cs .1) .0) ≡ true
+      → lockStatus (runOf (freshState reading) (zeros areaBytes) cs .0 .0 .device) k at ≡ 0
+  -- he then holds it, and another gets status 3
+  pub holds : (d : Device) (k j at : ℕ) → k < connectionCount → at < length (d .holders) → length (d .holders) ≡ muteCount
+      → lockStatus d k at ≡ 0 → eqb j k ≡ false → lockStatus (commands.runOf d k (firstMute + at) lockMethod 0 [] .device) j at ≡ 3

@@ -1,0 +1,25 @@
+use Rattle.script.proofs.Stages.{datagram-stage}
+use borrow.Author.Needs.{needs}
+use Rattle.script.proofs.datagram.Statement.{statement}
+use Rattle.script.proofs.datagram.Tie as tie
+use Rattle.script.proofs.datagram.Reads as reads
+use Rattle.script.proofs.datagram.Lts as lts
+use Rattle.endpoint.proofs.Record.datagram.Reads as datagram-reads
+use Rattle.script.proofs.resetting_numbers.Reads as resetting-numbers-reads
+
+datagram-requires : tie.Need-datagram-requires
+datagram-requires c κs = search needs
+
+resetting-numbers-requires : tie.Need-resetting-numbers-requires
+resetting-numbers-requires c κs = search needs
+
+same-length : tie.Need-same-length
+same-length c = search needs
+
+returns : tie.Need-returns
+returns c = search (datagram-stage, needs)
+
+pub datagram-spec : {M : Type 1} → statement M
+datagram-spec =
+    tie.close
+    (tie.spec datagram-requires resetting-numbers-requires same-length returns)
