@@ -71,6 +71,15 @@ pub struct Taken {
 
 #[repr(C)]
 #[derive(Clone, Copy, Debug, Default, PartialEq, Eq)]
+pub struct Reset {
+    pub record: Record,
+    pub number: u8,
+    /// 1 if the datagram reset the device, 0 if it changed nothing.
+    pub reset: u8,
+}
+
+#[repr(C)]
+#[derive(Clone, Copy, Debug, Default, PartialEq, Eq)]
 pub struct Reading {
     pub number: u8,
     pub fault: u8,

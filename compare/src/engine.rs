@@ -1,7 +1,7 @@
 //! The calls both programs answer.
 
 use crate::answer::{
-    Cleared, Closed, Delivered, Entry, Opened, Part, Reading, Taken, Ticked, Written,
+    Cleared, Closed, Delivered, Entry, Opened, Part, Reading, Reset, Taken, Ticked, Written,
 };
 use crate::record::Record;
 
@@ -21,6 +21,7 @@ pub trait Engine {
         output: &mut [u8],
     ) -> Delivered;
     fn take(&self, record: Record, output: &mut [u8]) -> Taken;
+    fn datagram(&self, record: Record, area: &mut [u8], datagram: &[u8]) -> Reset;
     fn read_message(&self, bytes: &[u8]) -> Reading;
     fn read_entry(&self, bytes: &[u8], index: usize) -> Entry;
     fn entry_part(&self, bytes: &[u8], index: usize) -> Part;

@@ -4,11 +4,11 @@
 //! area, and is there to measure the library against.
 
 use crate::answer::{
-    CLOSED, Cleared, Closed, Delivered, Entry, MESSAGE, MORE, Opened, Part, Reading, Taken, Ticked,
-    Written,
+    CLOSED, Cleared, Closed, Delivered, Entry, MESSAGE, MORE, Opened, Part, Reading, Reset, Taken,
+    Ticked, Written,
 };
 use crate::engine::Engine;
-use crate::record::{AREA, Connection, Device, Record, SHARE, Subscription};
+use crate::record::{AREA, Connection, Device, Mechanism, Record, SHARE, Subscription};
 use crate::second::Second;
 
 const EVENT: u32 = 0x0001_0001;
@@ -254,7 +254,7 @@ fn run(device: &mut Device, n: usize, entry: &[u8], out: &mut [u8; 12]) -> (u8, 
             run_mute(device, n, mute, method, count, parameters, out)
         }
         1 => match method {
-            0x0003_000E => (8, 0),
+            0x0003_000E => (set_reset_key(device, count, parameters), 0),
             _ => run_manager(method, count, 1, out),
         },
         4 => match method {
@@ -385,6 +385,58 @@ fn remove(device: &mut Device, n: usize, count: u8, parameters: &[u8]) -> u8 {
     }
 }
 
+fn set_reset_key(device: &mut Device, count: u8, parameters: &[u8]) -> u8 {
+    let length = parameters.len();
+    if count != 2 || length < 20 || usize::from(half(parameters, 16)) != length - 20 {
+        return 4;
+    }
+    let port = half(parameters, length - 2);
+    let Some(address) = address(&parameters[18..length - 2]) else {
+        return 7;
+    };
+    if port == 0 {
+        return 7;
+    }
+    let mechanism = &mut device.mechanism;
+    mechanism.armed = true;
+    mechanism.key.copy_from_slice(&parameters[..16]);
+    mechanism.address = address;
+    mechanism.port = port;
+    0
+}
+
+/// Reads an empty text or a multicast address, byte by byte.
+fn address(text: &[u8]) -> Option<[u8; 4]> {
+    let mut address = [0; 4];
+    if text.is_empty() {
+        return Some(address);
+    }
+    let (mut part, mut digits, mut value) = (0, 0, 0);
+    for byte in text {
+        match byte {
+            // A zero with a digit behind it would be a leading one.
+            b'0'..=b'9' if digits == 0 || value != 0 => {
+                value = 10 * value + u16::from(byte - b'0');
+                digits += 1;
+                if value > 255 {
+                    return None;
+                }
+            }
+            b'.' if digits > 0 && part < 3 => {
+                address[part] = value as u8;
+                (part, digits, value) = (part + 1, 0, 0);
+            }
+            _ => return None,
+        }
+    }
+    address[3] = value as u8;
+    (part == 3 && digits > 0 && is_multicast(address)).then_some(address)
+}
+
+fn is_multicast(address: [u8; 4]) -> bool {
+    address[0] & 0xF0 == 224
+}
+
 /// A record that keeps the rules holds no event but the one.
 fn find(device: &Device, n: usize, parameters: &[u8]) -> Option<usize> {
     let emitter = word(parameters, 0);
@@ -464,7 +516,16 @@ fn record_is_good(record: &Record) -> bool {
     let open = |n: u8| n < 8 && (live >> n) & 1 == 1;
     device.holders.iter().all(|h| *h == 0 || open(*h - 1))
         && device.mutes.iter().all(|mute| *mute == 1 || *mute == 2)
+        && mechanism_is_good(&device.mechanism)
         && subscriptions_are_good(&device.subscriptions, open)
+}
+
+fn mechanism_is_good(mechanism: &Mechanism) -> bool {
+    if !mechanism.armed {
+        return *mechanism == Mechanism::default();
+    }
+    let address = mechanism.address;
+    mechanism.port != 0 && (address == [0; 4] || is_multicast(address))
 }
 
 fn connection_is_good(connection: &Connection, held: u16) -> bool {
@@ -596,6 +657,10 @@ impl Engine for Fast {
 
     fn take(&self, record: Record, output: &mut [u8]) -> Taken {
         Second.take(record, output)
+    }
+
+    fn datagram(&self, record: Record, area: &mut [u8], datagram: &[u8]) -> Reset {
+        Second.datagram(record, area, datagram)
     }
 
     fn read_message(&self, bytes: &[u8]) -> Reading {

@@ -1,7 +1,7 @@
 //! The library, called over its C boundary.
 
 use crate::answer::{
-    Cleared, Closed, Delivered, Entry, Opened, Part, Reading, Taken, Ticked, Written,
+    Cleared, Closed, Delivered, Entry, Opened, Part, Reading, Reset, Taken, Ticked, Written,
 };
 use crate::engine::Engine;
 use crate::record::Record;
@@ -23,6 +23,13 @@ unsafe extern "C" {
         output_len: usize,
     ) -> Delivered;
     fn melorwyth_take(record: Record, output: *mut u8, output_len: usize) -> Taken;
+    fn melorwyth_datagram(
+        record: Record,
+        area: *mut u8,
+        area_len: usize,
+        datagram: *const u8,
+        datagram_len: usize,
+    ) -> Reset;
     fn melorwyth_read_message(bytes: *const u8, bytes_len: usize) -> Reading;
     fn melorwyth_read_entry(bytes: *const u8, bytes_len: usize, index: usize) -> Entry;
     fn melorwyth_entry_part(bytes: *const u8, bytes_len: usize, index: usize) -> Part;
@@ -95,6 +102,18 @@ impl Engine for Ours {
 
     fn take(&self, record: Record, output: &mut [u8]) -> Taken {
         unsafe { melorwyth_take(record, output.as_mut_ptr(), output.len()) }
+    }
+
+    fn datagram(&self, record: Record, area: &mut [u8], datagram: &[u8]) -> Reset {
+        unsafe {
+            melorwyth_datagram(
+                record,
+                area.as_mut_ptr(),
+                area.len(),
+                datagram.as_ptr(),
+                datagram.len(),
+            )
+        }
     }
 
     fn read_message(&self, bytes: &[u8]) -> Reading {

@@ -46,6 +46,17 @@ pub struct Subscription {
     pub context: u32,
 }
 
+/// Reset by key, as method 3.14 arms it; all zero while disarmed.
+#[repr(C)]
+#[derive(Clone, Copy, Debug, Default, PartialEq, Eq)]
+pub struct Mechanism {
+    pub armed: bool,
+    pub key: [u8; 16],
+    /// Zeros for no text.
+    pub address: [u8; 4],
+    pub port: u16,
+}
+
 /// What the rules speak of when messages come whole.
 #[repr(C)]
 #[derive(Clone, Copy, Debug, Default, PartialEq, Eq)]
@@ -58,6 +69,7 @@ pub struct Device {
     pub mutes: [u8; MUTES],
     /// 0 free, else the holding connection plus 1.
     pub holders: [u8; MUTES],
+    pub mechanism: Mechanism,
 }
 
 /// The endpoint's record: the device, and each connection's count of undecided bytes.

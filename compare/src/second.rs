@@ -3,17 +3,19 @@
 //! Every call first looks for a refusal and touches nothing until it knows
 //! there is none; so 'on refusal everything stays as it was' needs no undoing.
 
+pub mod address;
 pub mod device;
 pub mod endpoint;
 pub mod listing;
 pub mod reader;
+pub mod reset;
 pub mod rules;
 pub mod wire;
 pub mod writer;
 
 use crate::answer::{
     CLOSED, Cleared, Closed, Delivered, Entry, KEEP_ALIVE, MESSAGE, MORE, NOTIFICATION, Opened,
-    Part, Reading, Taken, Ticked, Written,
+    Part, Reading, Reset, Taken, Ticked, Written,
 };
 use crate::engine::Engine;
 use crate::record::Record;
@@ -145,6 +147,21 @@ impl Engine for Second {
                 record,
                 number: refusal.number(),
                 ..Taken::default()
+            },
+        }
+    }
+
+    fn datagram(&self, record: Record, area: &mut [u8], datagram: &[u8]) -> Reset {
+        match endpoint::datagram(&record, area, datagram) {
+            Ok((record, reset)) => Reset {
+                record,
+                number: 0,
+                reset: u8::from(reset),
+            },
+            Err(refusal) => Reset {
+                record,
+                number: refusal.number(),
+                reset: 0,
             },
         }
     }

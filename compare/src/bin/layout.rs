@@ -2,9 +2,9 @@
 //! field stands. `boundary/layout.c` prints the same from the C header.
 
 use compare::answer::{
-    Cleared, Closed, Delivered, Entry, Opened, Part, Reading, Taken, Ticked, Written,
+    Cleared, Closed, Delivered, Entry, Opened, Part, Reading, Reset, Taken, Ticked, Written,
 };
-use compare::record::{Connection, Device, Record, Subscription};
+use compare::record::{Connection, Device, Mechanism, Record, Subscription};
 use std::mem::{offset_of, size_of};
 
 /// One line for the struct, and one for each of its fields.
@@ -18,7 +18,8 @@ macro_rules! tell {
 fn main() {
     tell!(Connection: live, form, beat, silence, quiet, due);
     tell!(Subscription: used, waiting, connection, emitter, event, object, method, context);
-    tell!(Device: reading, connections, subscriptions, mutes, holders);
+    tell!(Mechanism: armed, key, address, port);
+    tell!(Device: reading, connections, subscriptions, mutes, holders, mechanism);
     tell!(Record: device, held);
     tell!(Cleared: number);
     tell!(Opened: record, number, connection);
@@ -26,6 +27,7 @@ fn main() {
     tell!(Ticked: record, number, closed);
     tell!(Delivered: record, number, kind, fault, taken, length);
     tell!(Taken: record, number, kind, connection, length);
+    tell!(Reset: record, number, reset);
     tell!(Reading: number, fault, kind, count, form, value, length);
     tell!(Entry: number, fault, kind, handle, target, level, index, count, status, context, emitter,
         event_level, event_index);

@@ -4,7 +4,7 @@
 //! lowest word that is not the paint's any more tells how deep the call went.
 
 use compare::answer::{
-    Cleared, Closed, Delivered, Entry, Opened, Part, Reading, Taken, Ticked, Written,
+    Cleared, Closed, Delivered, Entry, Opened, Part, Reading, Reset, Taken, Ticked, Written,
 };
 use compare::engine::Engine;
 use compare::harness::call::NAMES;
@@ -119,6 +119,10 @@ impl Engine for Painted {
 
     fn take(&self, record: Record, output: &mut [u8]) -> Taken {
         self.measured("take", || Ours.take(record, output))
+    }
+
+    fn datagram(&self, record: Record, area: &mut [u8], datagram: &[u8]) -> Reset {
+        self.measured("datagram", || Ours.datagram(record, area, datagram))
     }
 
     fn read_message(&self, bytes: &[u8]) -> Reading {

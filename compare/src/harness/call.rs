@@ -1,7 +1,7 @@
 //! A call with all it is given, and all that comes back.
 
 use crate::answer::{
-    Cleared, Closed, Delivered, Entry, Opened, Part, Reading, Taken, Ticked, Written,
+    Cleared, Closed, Delivered, Entry, Opened, Part, Reading, Reset, Taken, Ticked, Written,
 };
 use crate::engine::Engine;
 use crate::record::Record;
@@ -40,6 +40,11 @@ pub enum Call {
         record: Record,
         output: Vec<u8>,
     },
+    Datagram {
+        record: Record,
+        area: Vec<u8>,
+        datagram: Vec<u8>,
+    },
     ReadMessage {
         bytes: Vec<u8>,
     },
@@ -69,7 +74,7 @@ pub enum Call {
 }
 
 /// The calls' names, in the order of [`Call::place`].
-pub const NAMES: [&str; 13] = [
+pub const NAMES: [&str; 14] = [
     "fresh",
     "clear",
     "open",
@@ -77,6 +82,7 @@ pub const NAMES: [&str; 13] = [
     "tick",
     "deliver",
     "take",
+    "datagram",
     "read_message",
     "read_entry",
     "entry_part",
@@ -95,6 +101,7 @@ pub enum Answer {
     Ticked(Ticked),
     Delivered(Delivered),
     Taken(Taken),
+    Reset(Reset),
     Reading(Reading),
     Entry(Entry),
     Part(Part),
@@ -121,12 +128,13 @@ impl Call {
             Call::Tick { .. } => 4,
             Call::Deliver { .. } => 5,
             Call::Take { .. } => 6,
-            Call::ReadMessage { .. } => 7,
-            Call::ReadEntry { .. } => 8,
-            Call::EntryPart { .. } => 9,
-            Call::Start { .. } => 10,
-            Call::Append { .. } => 11,
-            Call::KeepAlive { .. } => 12,
+            Call::Datagram { .. } => 7,
+            Call::ReadMessage { .. } => 8,
+            Call::ReadEntry { .. } => 9,
+            Call::EntryPart { .. } => 10,
+            Call::Start { .. } => 11,
+            Call::Append { .. } => 12,
+            Call::KeepAlive { .. } => 13,
         }
     }
 
@@ -137,7 +145,8 @@ impl Call {
             | Call::Close { record, .. }
             | Call::Tick { record, .. }
             | Call::Deliver { record, .. }
-            | Call::Take { record, .. } => Some(record),
+            | Call::Take { record, .. }
+            | Call::Datagram { record, .. } => Some(record),
             _ => None,
         }
     }
@@ -148,7 +157,8 @@ impl Call {
             Call::Clear { area }
             | Call::Close { area, .. }
             | Call::Tick { area, .. }
-            | Call::Deliver { area, .. } => area,
+            | Call::Deliver { area, .. }
+            | Call::Datagram { area, .. } => area,
             _ => &[],
         }
     }
@@ -189,6 +199,9 @@ impl Call {
                 record, n, piece, ..
             } => Answer::Delivered(engine.deliver(*record, area, *n, piece, output)),
             Call::Take { record, .. } => Answer::Taken(engine.take(*record, output)),
+            Call::Datagram {
+                record, datagram, ..
+            } => Answer::Reset(engine.datagram(*record, area, datagram)),
             Call::ReadMessage { bytes } => Answer::Reading(engine.read_message(bytes)),
             Call::ReadEntry { bytes, index } => Answer::Entry(engine.read_entry(bytes, *index)),
             Call::EntryPart { bytes, index } => Answer::Part(engine.entry_part(bytes, *index)),
@@ -210,6 +223,7 @@ impl Call {
             Call::Close { n, .. } => format!(" connection {n}"),
             Call::Tick { reading, .. } => format!(" reading {reading}"),
             Call::Deliver { n, piece, .. } => format!(" connection {n}, piece {}", hex(piece)),
+            Call::Datagram { datagram, .. } => format!(" {}", hex(datagram)),
             Call::ReadMessage { bytes } => format!(" {}", hex(bytes)),
             Call::ReadEntry { bytes, index } | Call::EntryPart { bytes, index } => {
                 format!(" index {index} of {}", hex(bytes))
@@ -254,6 +268,7 @@ impl Answer {
             Answer::Ticked(answer) => answer.number,
             Answer::Delivered(answer) => answer.number,
             Answer::Taken(answer) => answer.number,
+            Answer::Reset(answer) => answer.number,
             Answer::Reading(answer) => answer.number,
             Answer::Entry(answer) => answer.number,
             Answer::Written(answer) => answer.number,
@@ -269,6 +284,7 @@ impl Answer {
             Answer::Ticked(answer) => Some(&answer.record),
             Answer::Delivered(answer) => Some(&answer.record),
             Answer::Taken(answer) => Some(&answer.record),
+            Answer::Reset(answer) => Some(&answer.record),
             _ => None,
         }
     }

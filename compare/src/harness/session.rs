@@ -2,10 +2,10 @@
 
 use super::call::{Answer, Call, Outcome, hex};
 use super::counts::Counts;
-use crate::answer::{Entry, Part, Reading};
+use crate::answer::{Entry, Part, Reading, Reset};
 use crate::engine::Engine;
 use crate::record::Record;
-use crate::second::{reader, rules};
+use crate::second::{endpoint, reader, rules};
 use std::fmt;
 
 /// What differed, where, and after which call.
@@ -129,14 +129,42 @@ fn after_success(call: &Call, outcome: &Outcome) -> Option<&'static str> {
     if !rules::hold(record) {
         return Some("a call left a record that breaks a rule");
     }
-    let lent = matches!(
+    let lent = !matches!(
         call,
-        Call::Close { .. } | Call::Tick { .. } | Call::Deliver { .. }
+        Call::Fresh { .. } | Call::Open { .. } | Call::Take { .. }
     );
     if lent && !rules::area_is_good(record, &outcome.area) {
         return Some("a call left a bad area");
     }
-    None
+    let before = call.record()?;
+    match outcome.answer {
+        Answer::Delivered(_) => None,
+        Answer::Reset(answer) => after_datagram(call, before, &answer, &outcome.area),
+        _ if record.device.mechanism != before.device.mechanism => {
+            Some("a call changed the mechanism that may not")
+        }
+        _ => None,
+    }
+}
+
+/// After a reset the record is fresh and the area zero; else nothing is changed.
+fn after_datagram(
+    call: &Call,
+    before: &Record,
+    answer: &Reset,
+    area: &[u8],
+) -> Option<&'static str> {
+    match answer.reset {
+        0 if answer.record != *before || area != call.area() => {
+            Some("a datagram that resets nothing changed something")
+        }
+        1 if answer.record != endpoint::fresh(before.device.reading) => {
+            Some("a reset left a record that is not fresh at the last reading")
+        }
+        1 if area.iter().any(|byte| *byte != 0) => Some("a reset left bytes in the area"),
+        0 | 1 => None,
+        _ => Some("a datagram's answer is neither reset nor nothing"),
+    }
 }
 
 /// The empty part of an entry there is may begin anywhere.
@@ -178,6 +206,7 @@ fn is_bare(answer: &Answer) -> bool {
             (answer.kind, answer.fault, answer.taken, answer.length) == (0, 0, 0, 0)
         }
         Answer::Taken(answer) => (answer.kind, answer.connection, answer.length) == (0, 0, 0),
+        Answer::Reset(answer) => answer.reset == 0,
         Answer::Reading(answer) => {
             let fault = answer.fault;
             let bare = Reading {
@@ -240,6 +269,7 @@ fn without_record(answer: &Answer) -> String {
             "number {} kind {} connection {} length {}",
             a.number, a.kind, a.connection, a.length
         ),
+        Answer::Reset(a) => format!("number {} reset {}", a.number, a.reset),
         other => format!("{other:?}"),
     }
 }
@@ -255,6 +285,7 @@ fn record_differences(left: &Record, right: &Record) -> Vec<String> {
         note(&mut lines, "mute", n, &a.mutes[n], &b.mutes[n]);
         note(&mut lines, "holder", n, &a.holders[n], &b.holders[n]);
     }
+    note(&mut lines, "mechanism", 0, &a.mechanism, &b.mechanism);
     for n in 0..32 {
         let (one, other) = (&a.subscriptions[n], &b.subscriptions[n]);
         note(&mut lines, "subscription", n, one, other);

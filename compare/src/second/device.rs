@@ -1,6 +1,7 @@
 //! Our objects: what a command does, and its status.
 
 use super::reader::Command;
+use super::reset;
 use crate::record::{Device, Subscription};
 
 /// Event 1.1.
@@ -145,7 +146,7 @@ fn status(
 
 fn not_implemented(object: Object, method: Method) -> bool {
     let manager = !matches!(object, Object::Mute(_));
-    method == Method::SetResetKey || (manager && matches!(method, Method::Lock | Method::Unlock))
+    manager && matches!(method, Method::Lock | Method::Unlock)
 }
 
 fn parameters_fit(method: Method, count: u8, parameters: &[u8]) -> bool {
@@ -154,6 +155,7 @@ fn parameters_fit(method: Method, count: u8, parameters: &[u8]) -> bool {
         Method::Set => count == 1 && length == 1,
         Method::Add => count == 5 && length == 23 && parameters[21..23] == [0, 0],
         Method::Remove => count == 2 && length == 16,
+        Method::SetResetKey => count == 2 && reset::setting(parameters).is_some(),
         _ => count == 0 && length == 0,
     }
 }
@@ -177,6 +179,7 @@ fn wrong_value(method: Method, parameters: &[u8]) -> bool {
     match method {
         Method::Add => parameters[20] != 1,
         Method::Set => parameters[0] != 1 && parameters[0] != 2,
+        Method::SetResetKey => reset::armed_by(parameters).is_none(),
         _ => false,
     }
 }
@@ -238,6 +241,7 @@ fn carry_out(
         (Method::Unlock, Object::Mute(mute)) => device.holders[mute] = 0,
         (Method::Add, _) => add(device, n, parameters),
         (Method::Remove, _) => remove(device, n, parameters),
+        (Method::SetResetKey, _) => set_reset_key(device, parameters),
         _ => {}
     }
     Reply::bare(0)
@@ -288,6 +292,13 @@ fn add(device: &mut Device, n: u8, parameters: &[u8]) {
             context: four(parameters, 16),
             ..named(n, parameters)
         };
+    }
+}
+
+/// The latest key counts, whoever set the one before.
+fn set_reset_key(device: &mut Device, parameters: &[u8]) {
+    if let Some(mechanism) = reset::armed_by(parameters) {
+        device.mechanism = mechanism;
     }
 }
 

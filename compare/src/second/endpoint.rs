@@ -3,6 +3,7 @@
 use super::Refusal;
 use super::device::{self, Reply};
 use super::reader;
+use super::reset;
 use super::rules;
 use super::wire::{self, FRONT, Heartbeat, Judgement};
 use crate::record::{AREA, CONNECTIONS, Connection, MUTES, Record, SHARE, Subscription};
@@ -251,6 +252,21 @@ pub fn take(record: &Record, output: &mut [u8]) -> Result<(Record, Taking), Refu
         return Ok((record, Taking::KeepAlive { connection, length }));
     }
     Ok((record, Taking::Nothing))
+}
+
+/// Resets the device if the datagram asks for it; answers whether it did.
+pub fn datagram(
+    record: &Record,
+    area: &mut [u8],
+    datagram: &[u8],
+) -> Result<(Record, bool), Refusal> {
+    need_record(record)?;
+    need_area(record, area)?;
+    if !reset::asks(&record.device.mechanism, datagram) {
+        return Ok((*record, false));
+    }
+    area.fill(0);
+    Ok((fresh(record.device.reading), true))
 }
 
 /// The notification of the value the mute has at this moment.

@@ -1,8 +1,9 @@
 //! The record rules, and when a lent area is bad.
 
+use super::address;
 use super::device::{self, EVENT};
 use super::wire::{self, Judgement};
-use crate::record::{AREA, CONNECTIONS, Connection, Record, SHARE, Subscription};
+use crate::record::{AREA, CONNECTIONS, Connection, Mechanism, Record, SHARE, Subscription};
 
 const MOST_UNDECIDED: u16 = 2_048;
 
@@ -17,6 +18,7 @@ pub fn hold(record: &Record) -> bool {
             .all(|entry| subscription(record, entry))
         && no_twins(&device.subscriptions)
         && device.mutes.iter().all(|mute| *mute == 1 || *mute == 2)
+        && mechanism(&device.mechanism)
 }
 
 fn connection(connection: &Connection, held: u16) -> bool {
@@ -74,6 +76,14 @@ fn subscription(record: &Record, entry: &Subscription) -> bool {
 fn no_twins(entries: &[Subscription]) -> bool {
     let used: Vec<&Subscription> = entries.iter().filter(|entry| entry.used).collect();
     (0..used.len()).all(|a| (0..a).all(|b| !device::same(used[a], used[b])))
+}
+
+fn mechanism(mechanism: &Mechanism) -> bool {
+    if !mechanism.armed {
+        return *mechanism == Mechanism::default();
+    }
+    let address = mechanism.address;
+    mechanism.port != 0 && (address == address::NO_TEXT || address::is_multicast(address))
 }
 
 /// Whether the area is as row 2 wants it, for a record that keeps the rules.
