@@ -8,6 +8,8 @@ pub mod desk;
 pub mod gate;
 pub mod planned;
 pub mod random;
+pub mod reset;
+pub mod reset_counts;
 pub mod session;
 pub mod traffic;
 pub mod walk;

@@ -402,7 +402,7 @@ fn statuses_come_in_their_order() {
     assert_eq!(bench.status(0, 1, (3, 1), 9, &[1]), 11);
     assert_eq!(bench.status(0, 4, (3, 14), 0, &[]), 11);
     assert_eq!(bench.status(0, 4_097, (3, 1), 0, &[]), 11);
-    assert_eq!(bench.status(0, 1, (3, 14), 7, &[1, 2]), 8);
+    assert_eq!(bench.status(0, 1, (3, 14), 7, &[1, 2]), 4);
     assert_eq!(bench.status(0, 4, (1, 3), 7, &[]), 8);
     assert_eq!(bench.status(0, 1, (1, 4), 0, &[]), 8);
     assert_eq!(bench.status(0, 1, (1, 1), 1, &[]), 4);

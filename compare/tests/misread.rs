@@ -3,11 +3,11 @@
 //! wrong layout would see it, and the gate's runs have to find it.
 
 use compare::answer::{
-    Cleared, Closed, Delivered, Entry, Opened, Part, Reading, Taken, Ticked, Written,
+    Cleared, Closed, Delivered, Entry, Opened, Part, Reading, Reset, Taken, Ticked, Written,
 };
 use compare::engine::Engine;
 use compare::harness::gate;
-use compare::record::{Connection, Record, Subscription};
+use compare::record::{Connection, Mechanism, Record, Subscription};
 use compare::second::Second;
 use std::mem::swap;
 
@@ -23,17 +23,19 @@ enum Wrong {
     Record(fn(&mut Record)),
     Connection(fn(&mut Connection)),
     Subscription(fn(&mut Subscription)),
+    Mechanism(fn(&mut Mechanism)),
     Opened(fn(&mut Opened)),
     Ticked(fn(&mut Ticked)),
     Delivered(fn(&mut Delivered)),
     Taken(fn(&mut Taken)),
+    Reset(fn(&mut Reset)),
     Reading(fn(&mut Reading)),
     Entry(fn(&mut Entry)),
     Part(fn(&mut Part)),
     Written(fn(&mut Written)),
 }
 
-const WRONG: [(&str, Wrong); 35] = [
+const WRONG: [(&str, Wrong); 43] = [
     ("held", Wrong::Record(|r| r.held.reverse())),
     (
         "connections",
@@ -89,6 +91,36 @@ const WRONG: [(&str, Wrong); 35] = [
         "method, context",
         Wrong::Subscription(|e| swap(&mut e.method, &mut e.context)),
     ),
+    (
+        "holders, key",
+        Wrong::Record(|r| swap(&mut r.device.holders[0], &mut r.device.mechanism.key[0])),
+    ),
+    (
+        "armed, key",
+        Wrong::Mechanism(|m| {
+            // Only 0 and 1 can stand in both places.
+            if m.key[0] < 2 {
+                (m.armed, m.key[0]) = (m.key[0] == 1, u8::from(m.armed));
+            }
+        }),
+    ),
+    ("key", Wrong::Mechanism(|m| m.key.reverse())),
+    (
+        "key, address",
+        Wrong::Mechanism(|m| m.key[12..].swap_with_slice(&mut m.address)),
+    ),
+    ("address", Wrong::Mechanism(|m| m.address.reverse())),
+    (
+        "address, port",
+        Wrong::Mechanism(|m| {
+            let [a, b, c, d] = m.address;
+            let [high, low] = m.port.to_be_bytes();
+            m.address = [a, b, high, low];
+            m.port = u16::from_be_bytes([c, d]);
+        }),
+    ),
+    ("port", Wrong::Mechanism(|m| m.port = m.port.swap_bytes())),
+    ("reset", Wrong::Reset(|a| swap(&mut a.number, &mut a.reset))),
     (
         "opened",
         Wrong::Opened(|a| swap(&mut a.number, &mut a.connection)),
@@ -186,6 +218,7 @@ impl Misread {
             Wrong::Record(edit) => edit(&mut record),
             Wrong::Connection(edit) => record.device.connections.iter_mut().for_each(edit),
             Wrong::Subscription(edit) => record.device.subscriptions.iter_mut().for_each(edit),
+            Wrong::Mechanism(edit) => edit(&mut record.device.mechanism),
             _ => {}
         }
         record
@@ -252,6 +285,15 @@ impl Engine for Misread {
         let mut answer = RIGHT.take(self.record(record), output);
         answer.record = self.record(answer.record);
         if let Wrong::Taken(edit) = self.0 {
+            edit(&mut answer);
+        }
+        answer
+    }
+
+    fn datagram(&self, record: Record, area: &mut [u8], datagram: &[u8]) -> Reset {
+        let mut answer = RIGHT.datagram(self.record(record), area, datagram);
+        answer.record = self.record(answer.record);
+        if let Wrong::Reset(edit) = self.0 {
             edit(&mut answer);
         }
         answer

@@ -1,6 +1,7 @@
 //! What a run exercised.
 
 use super::call::{Answer, Call, NAMES, Outcome};
+use super::reset_counts::ResetCounts;
 use crate::answer::{CLOSED, KEEP_ALIVE, MESSAGE, MORE, NOTIFICATION};
 use crate::record::SHARE;
 use std::fmt::Write;
@@ -11,13 +12,14 @@ pub const FLOOR: u64 = 100;
 const STATUSES: [u8; 10] = [0, 3, 4, 5, 6, 7, 8, 9, 10, 11];
 
 /// The refusals that each call can give, by the call's name.
-const POSSIBLE: [(&str, &[u8]); 11] = [
+const POSSIBLE: [(&str, &[u8]); 12] = [
     ("clear", &[2]),
     ("open", &[1, 5]),
     ("close", &[1, 2, 3]),
     ("tick", &[1, 2, 6]),
     ("deliver", &[1, 2, 3, 4]),
     ("take", &[1, 4]),
+    ("datagram", &[1, 2]),
     ("read_message", &[8, 9]),
     ("read_entry", &[8, 9, 12]),
     ("start", &[4, 10, 11]),
@@ -49,6 +51,7 @@ pub struct Counts {
     empty_parts: u64,
     /// Ticks given a record and a step whose sum does not fit 64 bits.
     overruns_tried: u64,
+    reset: ResetCounts,
 }
 
 impl Counts {
@@ -59,6 +62,7 @@ impl Counts {
         self.calls[place] += 1;
         self.refusals[place][number.min(12)] += 1;
         self.count_overrun(call);
+        self.reset.count(call, outcome);
         match (call, &outcome.answer) {
             (Call::Close { .. }, Answer::Closed(answer)) if answer.number == 0 => {
                 self.closed_by_host += 1;
@@ -158,6 +162,7 @@ impl Counts {
         self.parts += other.parts;
         self.empty_parts += other.empty_parts;
         self.overruns_tried += other.overruns_tried;
+        self.reset.add(&other.reset);
     }
 
     /// All calls made.
@@ -214,6 +219,7 @@ impl Counts {
         lines.push(("parts without bytes".to_string(), self.empty_parts));
         let label = "ticks whose sum does not fit 64 bits".to_string();
         lines.push((label, self.overruns_tried));
+        lines.extend(self.reset.lines());
         lines
     }
 
@@ -269,7 +275,7 @@ impl Counts {
             ("types delivered", series(&self.delivered_types, 0)),
             ("types read", series(&self.read_types, 0)),
         ];
-        for (label, numbers) in rows {
+        for (label, numbers) in rows.into_iter().chain(self.reset.rows()) {
             let _ = writeln!(text, "{label:<24}{numbers}");
         }
         self.write_rest(&mut text);
@@ -340,7 +346,8 @@ fn delivered_type(call: &Call) -> u8 {
     front.copied().nth(7).unwrap_or_default()
 }
 
-fn add_all(mine: &mut [u64], theirs: &[u64]) {
+/// Adds each count to the one at its place.
+pub fn add_all(mine: &mut [u64], theirs: &[u64]) {
     for (mine, theirs) in mine.iter_mut().zip(theirs) {
         *mine += theirs;
     }

@@ -3,8 +3,9 @@
 //! Some of the changes keep every rule: then the call has to go through.
 
 use super::random::Random;
+use super::reset::KEYS;
 use super::traffic;
-use crate::record::{AREA, Record, SHARE};
+use crate::record::{AREA, Mechanism, Record, SHARE};
 
 const FORMS: [u8; 5] = [0, 1, 2, 3, 255];
 const BEATS: [u64; 13] = [
@@ -28,9 +29,28 @@ const EMITTERS: [u32; 8] = [0, 1, 4_096, 4_097, 4_100, 4_104, 4_105, u32::MAX];
 const EVENTS: [u32; 5] = [0, 0x0001_0001, 0x0001_0002, 0x0002_0001, 1];
 const WORDS: [u32; 5] = [0, 1, 9, 0x0003_0001, u32::MAX];
 const MUTES: [u8; 5] = [0, 1, 2, 3, 255];
+const PORTS: [u16; 5] = [0, 1, 256, 65_001, 65_535];
+/// Multicast, not multicast, and none.
+const ADDRESSES: [[u8; 4]; 14] = [
+    [0, 0, 0, 0],
+    [224, 0, 0, 0],
+    [239, 255, 255, 255],
+    [232, 1, 2, 3],
+    [223, 255, 255, 255],
+    [240, 0, 0, 0],
+    [0, 0, 0, 1],
+    [0, 0, 1, 0],
+    [0, 1, 0, 0],
+    [1, 0, 0, 0],
+    [0, 224, 0, 0],
+    [96, 224, 239, 224],
+    [127, 0, 0, 1],
+    [255, 255, 255, 255],
+];
 
-/// The record's parts: each number's fields, each entry, the reading.
-const PARTS: usize = 8 + 32 + 1;
+/// The record's parts: each number's fields, each entry, the reading, the mechanism.
+const PARTS: usize = 8 + 32 + 2;
+const MECHANISM: usize = PARTS - 1;
 
 /// Every single-field change of the record, several values each.
 pub fn every_change(base: &Record) -> Vec<Record> {
@@ -42,11 +62,12 @@ fn changes_of(base: &Record, part: usize) -> Vec<Record> {
     match part {
         0..8 => number_changes(base, part, &mut changed),
         8..40 => subscription_changes(base, part - 8, &mut changed),
-        _ => {
+        40 => {
             for value in [0, 1, u32::MAX, 1 << 31] {
                 change(base, &mut changed, |record| record.device.reading = value);
             }
         }
+        _ => mechanism_changes(base, &mut changed),
     }
     changed
 }
@@ -158,6 +179,47 @@ fn subscription_changes(base: &Record, n: usize, changed: &mut Vec<Record>) {
     }
 }
 
+/// Every field by itself, and whole mechanisms, legal ones among them.
+fn mechanism_changes(base: &Record, changed: &mut Vec<Record>) {
+    let mechanism = |edit: &dyn Fn(&mut Mechanism), changed: &mut Vec<Record>| {
+        change(base, changed, |record| edit(&mut record.device.mechanism));
+    };
+    mechanism(&|whole| whole.armed = !whole.armed, changed);
+    for at in 0..16 {
+        mechanism(&|whole| whole.key[at] ^= 1 << (at % 8), changed);
+    }
+    for key in KEYS {
+        mechanism(&|whole| whole.key = key, changed);
+    }
+    for address in ADDRESSES {
+        mechanism(&|whole| whole.address = address, changed);
+    }
+    for port in PORTS {
+        mechanism(&|whole| whole.port = port, changed);
+    }
+    for whole in mechanisms() {
+        mechanism(&|place| *place = whole, changed);
+    }
+}
+
+/// Armed with every address and port, and disarmed.
+pub fn mechanisms() -> Vec<Mechanism> {
+    let mut all = vec![Mechanism::default()];
+    for address in ADDRESSES {
+        for port in [0, 1, 65_535] {
+            for key in [KEYS[0], KEYS[2]] {
+                all.push(Mechanism {
+                    armed: true,
+                    key,
+                    address,
+                    port,
+                });
+            }
+        }
+    }
+    all
+}
+
 /// A twin of one entry in the place of another, whatever its context.
 pub fn twin(random: &mut Random, base: &Record) -> Record {
     let mut record = *base;
@@ -177,7 +239,11 @@ pub fn any_change(random: &mut Random, base: &Record) -> Record {
     if random.chance(10) {
         return twin(random, base);
     }
-    let part = random.below(PARTS);
+    let part = if random.chance(12) {
+        MECHANISM
+    } else {
+        random.below(PARTS)
+    };
     let changed = changes_of(base, part);
     if changed.is_empty() {
         return *base;

@@ -3,6 +3,7 @@
 
 use super::call::{Answer, Call, Outcome};
 use super::random::Random;
+use super::reset;
 use super::session::{Checked, Session};
 use super::traffic;
 use crate::answer::Delivered;
@@ -84,6 +85,18 @@ impl<'s, 'e> Desk<'s, 'e> {
         self.advance(call)
     }
 
+    /// Hands over a datagram.
+    pub fn datagram(&mut self, datagram: &[u8]) -> Checked<Outcome> {
+        let call = self.resetting(datagram);
+        self.advance(call)
+    }
+
+    /// Sets the key by 3.14 from a connection, with a reply.
+    pub fn set_key(&mut self, n: u8, parameters: &[u8]) -> Checked<()> {
+        let entry = traffic::command(3, 1, (3, 14), 2, parameters);
+        self.deliver(n, &traffic::message(1, &[entry]))
+    }
+
     /// Offers one piece.
     pub fn piece(&mut self, n: u8, piece: &[u8]) -> Checked<Option<Delivered>> {
         let call = self.delivering(n, piece);
@@ -142,13 +155,21 @@ impl<'s, 'e> Desk<'s, 'e> {
         }
     }
 
+    pub fn resetting(&self, datagram: &[u8]) -> Call {
+        Call::Datagram {
+            record: self.record,
+            area: self.area.clone(),
+            datagram: datagram.to_vec(),
+        }
+    }
+
     pub fn is_open(&self, n: u8) -> bool {
         let connections = &self.record.device.connections;
         connections.get(usize::from(n)).is_some_and(|c| c.live)
     }
 
     /// Eight connections with every form and many heartbeats, locks, a full
-    /// table, marks waiting, keep-alives due and undecided bytes.
+    /// table, marks waiting, keep-alives due, a key and undecided bytes.
     pub fn make_busy(&mut self) -> Checked<()> {
         for _ in 0..8 {
             self.open()?;
@@ -167,6 +188,7 @@ impl<'s, 'e> Desk<'s, 'e> {
         }
         let set = traffic::command(8, 4_100, (4, 2), 1, &[1]);
         self.deliver(2, &traffic::message(0, &[set]))?;
+        self.set_key(6, &reset::setting(&reset::KEYS[2], b"239.1.0.255", 65_001))?;
         self.tick(400)?;
         let sample = traffic::message(1, &[traffic::command(9, 4, (3, 1), 5, &[0; 23])]);
         for (n, length) in [(0, 1), (1, 9), (2, 10), (5, 30), (7, sample.len() - 1)] {

@@ -1,6 +1,7 @@
 //! Calls that are gone through one by one instead of being left to chance.
 
 mod messages;
+mod reset;
 mod states;
 mod time;
 mod writing;
@@ -14,7 +15,7 @@ const HALF: u32 = 1 << 31;
 
 type Plan = fn(&mut Desk<'_, '_>) -> Checked<()>;
 
-const PLANS: [Plan; 17] = [
+const PLANS: [Plan; 24] = [
     states::freshness,
     states::overruns,
     states::full_table,
@@ -32,6 +33,13 @@ const PLANS: [Plan; 17] = [
     time::long_silence,
     messages::every_method,
     writing::writer,
+    reset::every_text,
+    reset::every_part,
+    reset::every_length,
+    reset::elsewhere,
+    reset::datagrams,
+    reset::resets,
+    reset::mechanisms,
 ];
 
 /// Goes through all plans.

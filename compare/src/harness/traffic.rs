@@ -3,6 +3,7 @@
 //! They are put together here without help of either program.
 
 use super::random::Random;
+use super::reset;
 
 const MUTES: [u32; 8] = [4_097, 4_098, 4_099, 4_100, 4_101, 4_102, 4_103, 4_104];
 const STRANGERS: [u32; 9] = [0, 2, 3, 5, 256, 4_096, 4_105, 0x0001_1001, u32::MAX];
@@ -97,7 +98,7 @@ pub fn adding(name: &[u8], context: u32, mode: u8, pair: [u8; 2]) -> Vec<u8> {
 
 /// A well-formed command, mostly one that can succeed.
 pub fn any_command(random: &mut Random) -> Vec<u8> {
-    let (target, method) = match random.weighted(&[58, 30, 7, 5]) {
+    let (target, method) = match random.weighted(&[56, 29, 10, 5]) {
         0 => (random.pick(&MUTES), mute_method(random)),
         1 => (4, subscription_method(random)),
         2 => (1, manager_method(random)),
@@ -141,7 +142,7 @@ fn subscription_method(random: &mut Random) -> (u16, u16) {
 }
 
 fn manager_method(random: &mut Random) -> (u16, u16) {
-    match random.weighted(&[40, 15, 15, 10, 10, 10]) {
+    match random.weighted(&[60, 9, 9, 8, 8, 6]) {
         0 => (3, 14),
         1 => (1, 1),
         2 => (1, 2),
@@ -193,6 +194,7 @@ fn arguments(random: &mut Random, method: (u16, u16)) -> (u8, Vec<u8>) {
             (5, adding(&name, context, mode, pair))
         }
         (3, 2) => (2, any_name(random)),
+        (3, 14) => (2, reset::any_setting(random)),
         _ => (0, Vec::new()),
     }
 }
@@ -385,6 +387,7 @@ pub fn samples() -> Vec<Vec<u8>> {
     let remove = command(2, 4, (3, 2), 2, &name);
     let set = command(3, 4_097, (4, 2), 1, &[1]);
     let lock = command(7, 4_097, (1, 3), 0, &[]);
+    let key = reset::setting(&reset::KEYS[2], b"239.1.0.255", 65_001);
     vec![
         keep_alive(1, 2),
         keep_alive(2, 2_000),
@@ -403,5 +406,6 @@ pub fn samples() -> Vec<Vec<u8>> {
         message(1, &[set.clone(), remove]),
         message(0, &[set, add]),
         message(1, &[command(4, 1, (1, 1), 0, &[]), lock]),
+        message(1, &[command(5, 1, (3, 14), 2, &key)]),
     ]
 }

@@ -5,6 +5,7 @@ use super::codec;
 use super::damage;
 use super::desk::{Desk, ROOM};
 use super::random::Random;
+use super::reset;
 use super::session::{Checked, Session};
 use super::traffic;
 use crate::answer::CLOSED;
@@ -53,7 +54,8 @@ impl Walk<'_, '_> {
     }
 
     fn step(&mut self) -> Checked<()> {
-        match self.desk.random.weighted(&[7, 2, 12, 10, 40, 9, 6, 9, 1]) {
+        let weights = [7, 2, 12, 10, 40, 9, 6, 9, 1, 6];
+        match self.desk.random.weighted(&weights) {
             0 => self.desk.open().map(drop),
             1 => self.close(),
             2 => self.tick(),
@@ -62,7 +64,8 @@ impl Walk<'_, '_> {
             5 => self.spoiled(),
             6 => codec::read(&mut self.desk),
             7 => codec::write(&mut self.desk),
-            _ => codec::round_trip(&mut self.desk),
+            8 => codec::round_trip(&mut self.desk),
+            _ => self.datagram(),
         }
     }
 
@@ -127,6 +130,23 @@ impl Walk<'_, '_> {
         let output = self.any_output();
         let record = self.desk.record;
         self.desk.advance(Call::Take { record, output })?;
+        Ok(())
+    }
+
+    fn datagram(&mut self) -> Checked<()> {
+        let mechanism = self.desk.record.device.mechanism;
+        let datagram = reset::any_datagram(&mut self.desk.random, &mechanism);
+        // Mostly left behind, so that a device lives long enough to be busy.
+        if self.desk.random.chance(75) {
+            let call = self.desk.resetting(&datagram);
+            return self.desk.session.check(call).map(drop);
+        }
+        let outcome = self.desk.datagram(&datagram)?;
+        if let Answer::Reset(answer) = outcome.answer
+            && answer.reset == 1
+        {
+            self.streams = Default::default();
+        }
         Ok(())
     }
 
@@ -221,7 +241,7 @@ impl Walk<'_, '_> {
     fn any_call(&mut self, record: Record, area: Vec<u8>) -> Call {
         let n = self.any_number();
         let output = self.any_output();
-        match self.desk.random.weighted(&[1, 2, 3, 4, 1, 1]) {
+        match self.desk.random.weighted(&[1, 2, 3, 4, 1, 1, 2]) {
             0 => Call::Open { record },
             1 => Call::Close { record, area, n },
             2 => {
@@ -241,7 +261,12 @@ impl Walk<'_, '_> {
                 output,
             },
             4 => Call::Take { record, output },
-            _ => Call::Clear { area },
+            5 => Call::Clear { area },
+            _ => Call::Datagram {
+                datagram: reset::any_datagram(&mut self.desk.random, &record.device.mechanism),
+                record,
+                area,
+            },
         }
     }
 }

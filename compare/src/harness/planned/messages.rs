@@ -124,7 +124,16 @@ pub fn byte_by_byte(desk: &mut Desk<'_, '_>) -> Checked<()> {
 pub fn every_method(desk: &mut Desk<'_, '_>) -> Checked<()> {
     desk.open()?;
     desk.open()?;
-    let arguments = [(0, 0), (1, 1), (5, 23), (2, 16), (1, 0), (5, 22), (2, 17)];
+    let arguments = [
+        (0, 0),
+        (1, 1),
+        (5, 23),
+        (2, 16),
+        (2, 20),
+        (1, 0),
+        (5, 22),
+        (2, 17),
+    ];
     let targets = [
         0,
         1,

@@ -5,6 +5,7 @@ use super::writing::write_all;
 use crate::harness::call::Call;
 use crate::harness::damage;
 use crate::harness::desk::{Desk, ROOM};
+use crate::harness::reset;
 use crate::harness::session::Checked;
 use crate::harness::traffic::{self, command, keep_alive, message};
 use crate::record::{AREA, Record, SHARE};
@@ -92,8 +93,8 @@ pub fn wild_records(desk: &mut Desk<'_, '_>) -> Checked<()> {
     Ok(())
 }
 
-/// The five calls that are given a record.
-fn calls_on(desk: &mut Desk<'_, '_>, record: Record) -> [Call; 5] {
+/// The six calls that are given a record.
+pub fn calls_on(desk: &mut Desk<'_, '_>, record: Record) -> [Call; 6] {
     let area = desk.area.clone();
     let step = desk.random.pick(&[0, 1, 100, HALF - 1]);
     let n = desk.random.below(8) as u8;
@@ -111,7 +112,7 @@ fn calls_on(desk: &mut Desk<'_, '_>, record: Record) -> [Call; 5] {
         },
         Call::Deliver {
             record,
-            area,
+            area: area.clone(),
             n,
             piece: message(1, &[command(1, 4_097, (4, 2), 1, &[1])]),
             output: desk.random.bytes(ROOM),
@@ -119,6 +120,11 @@ fn calls_on(desk: &mut Desk<'_, '_>, record: Record) -> [Call; 5] {
         Call::Take {
             record,
             output: desk.random.bytes(ROOM),
+        },
+        Call::Datagram {
+            record,
+            area,
+            datagram: reset::asking(&record.device.mechanism.key),
         },
     ]
 }
@@ -202,10 +208,15 @@ fn calls_with(desk: &mut Desk<'_, '_>, area: Vec<u8>) -> Checked<()> {
     let output = desk.random.bytes(ROOM);
     desk.session.check(Call::Deliver {
         record,
-        area,
+        area: area.clone(),
         n,
         piece: vec![0],
         output,
+    })?;
+    desk.session.check(Call::Datagram {
+        record,
+        area,
+        datagram: reset::asking(&record.device.mechanism.key),
     })?;
     Ok(())
 }

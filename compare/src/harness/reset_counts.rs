@@ -1,0 +1,277 @@
+//! What a run exercised of reset by key.
+
+use super::call::{Answer, Call, NAMES, Outcome};
+use super::counts::add_all;
+use super::reset::{SENTINEL, asking};
+use crate::answer::Reset;
+use crate::record::{Mechanism, Record, SHARE};
+use std::cmp::Ordering;
+
+const DATAGRAMS: [&str; 9] = [
+    "reset",
+    "reset by the zero key",
+    "disarmed",
+    "disarmed, zero key",
+    "too short",
+    "too long",
+    "right and more",
+    "wrong sentinel",
+    "wrong key",
+];
+
+/// What a reset ends; several at once count each.
+const ENDED: [&str; 5] = [
+    "connections",
+    "locks",
+    "waiting entries",
+    "undecided bytes",
+    "mutes",
+];
+
+const SETTINGS: [&str; 9] = [
+    "0 without text",
+    "0 with an address",
+    "4 by the count",
+    "4 by too few bytes",
+    "4 by too many bytes",
+    "7 by the text",
+    "7 with port 0",
+    "11 elsewhere",
+    "0 in place of another key",
+];
+/// Counts besides one of the first two.
+const REPLACED: usize = SETTINGS.len() - 1;
+
+const RULES: [&str; 6] = [
+    "armed, port 0",
+    "armed, address below 224",
+    "armed, address above 239",
+    "disarmed, key",
+    "disarmed, address",
+    "disarmed, port",
+];
+
+/// The calls that are given a record.
+const GIVEN: [&str; 6] = ["open", "close", "tick", "deliver", "take", "datagram"];
+
+/// Counts of all that came of reset by key.
+#[derive(Clone, Debug, Default)]
+pub struct ResetCounts {
+    datagrams: [u64; DATAGRAMS.len()],
+    ended: [u64; ENDED.len()],
+    settings: [u64; SETTINGS.len()],
+    /// Refusals of a record that breaks this rule alone of the mechanism's, by call.
+    broken: [[u64; RULES.len()]; NAMES.len()],
+    /// Calls done on an armed record, by call.
+    armed: [u64; NAMES.len()],
+}
+
+impl ResetCounts {
+    /// Counts one call and its outcome.
+    pub fn count(&mut self, call: &Call, outcome: &Outcome) {
+        if let Some(record) = call.record() {
+            self.count_mechanism(call.place(), record, outcome.answer.number());
+        }
+        match (call, outcome.answer) {
+            (
+                Call::Datagram {
+                    record, datagram, ..
+                },
+                Answer::Reset(answer),
+            ) if answer.number == 0 => self.count_datagram(record, datagram, &answer),
+            (Call::Deliver { record, .. }, Answer::Delivered(answer)) if answer.length > 0 => {
+                let reply = outcome.output.get(..answer.length).unwrap_or_default();
+                self.count_settings(record, &decided(call), reply);
+            }
+            _ => {}
+        }
+    }
+
+    fn count_mechanism(&mut self, place: usize, record: &Record, number: u8) {
+        let mechanism = &record.device.mechanism;
+        if number == 0 {
+            self.armed[place] += u64::from(mechanism.armed);
+        } else if let ([rule], 1) = (broken_rules(mechanism).as_slice(), number) {
+            self.broken[place][*rule] += 1;
+        }
+    }
+
+    fn count_datagram(&mut self, record: &Record, datagram: &[u8], answer: &Reset) {
+        let kind = datagram_kind(&record.device.mechanism, datagram, answer.reset == 1);
+        self.datagrams[kind] += 1;
+        if answer.reset == 1 {
+            let device = &record.device;
+            let ended = [
+                device.connections.iter().any(|connection| connection.live),
+                device.holders.iter().any(|holder| *holder != 0),
+                device.subscriptions.iter().any(|entry| entry.waiting),
+                record.held.iter().any(|held| *held != 0),
+                device.mutes.contains(&1),
+            ];
+            add_all(&mut self.ended, &ended.map(u64::from));
+        }
+    }
+
+    /// Goes through commands and responses side by side.
+    fn count_settings(&mut self, record: &Record, message: &[u8], reply: &[u8]) {
+        if message.get(7) != Some(&1) {
+            return;
+        }
+        let mut armed = record.device.mechanism.armed;
+        for (command, response) in entries(message).zip(entries(reply)) {
+            if command.get(12..16) != Some(&[0, 3, 0, 14]) {
+                continue;
+            }
+            let first = command[8..12] == [0, 0, 0, 1];
+            if let Some(kind) = setting_kind(&command[16..], response[8], first) {
+                self.settings[kind] += 1;
+            }
+            let taken = response[8] == 0;
+            self.settings[REPLACED] += u64::from(taken && armed);
+            armed |= taken;
+        }
+    }
+
+    /// Adds what another run counted.
+    pub fn add(&mut self, other: &ResetCounts) {
+        add_all(&mut self.datagrams, &other.datagrams);
+        add_all(&mut self.ended, &other.ended);
+        add_all(&mut self.settings, &other.settings);
+        for (mine, theirs) in self.broken.iter_mut().zip(&other.broken) {
+            add_all(mine, theirs);
+        }
+        add_all(&mut self.armed, &other.armed);
+    }
+
+    /// Everything that has to come, with how often it came.
+    pub fn lines(&self) -> Vec<(String, u64)> {
+        let mut lines = Vec::new();
+        lines.extend(labelled("datagram: ", &DATAGRAMS, &self.datagrams));
+        lines.extend(labelled("reset ended ", &ENDED, &self.ended));
+        lines.extend(labelled("3.14: ", &SETTINGS, &self.settings));
+        for (place, name) in NAMES.iter().enumerate() {
+            if GIVEN.contains(name) {
+                let front = format!("{name}: refused, ");
+                lines.extend(labelled(&front, &RULES, &self.broken[place]));
+                lines.push((format!("{name}: done, armed"), self.armed[place]));
+            }
+        }
+        lines
+    }
+
+    /// The table's rows; the rules are added up over the calls.
+    pub fn rows(&self) -> [(&'static str, String); 5] {
+        let mut broken = [0; RULES.len()];
+        for counts in &self.broken {
+            add_all(&mut broken, counts);
+        }
+        let armed: u64 = self.armed.iter().sum();
+        [
+            ("datagrams", told(&DATAGRAMS, &self.datagrams)),
+            ("resets that ended", told(&ENDED, &self.ended)),
+            ("statuses of 3.14", told(&SETTINGS, &self.settings)),
+            ("mechanisms refused", told(&RULES, &broken)),
+            ("calls done while armed", armed.to_string()),
+        ]
+    }
+}
+
+fn labelled<'a>(
+    front: &'a str,
+    labels: &'a [&str],
+    counts: &'a [u64],
+) -> impl Iterator<Item = (String, u64)> + 'a {
+    let named = labels.iter().zip(counts);
+    named.map(move |(label, count)| (format!("{front}{label}"), *count))
+}
+
+fn told(labels: &[&str], counts: &[u64]) -> String {
+    let cells: Vec<String> = labels
+        .iter()
+        .zip(counts)
+        .map(|(label, count)| format!("{label}: {count}"))
+        .collect();
+    cells.join("; ")
+}
+
+/// The datagram's place among the kinds; of several reasons the first.
+fn datagram_kind(mechanism: &Mechanism, datagram: &[u8], reset: bool) -> usize {
+    let zero = mechanism.key == [0; 16];
+    let right = asking(&mechanism.key);
+    match datagram.len().cmp(&right.len()) {
+        _ if reset => usize::from(zero),
+        _ if !mechanism.armed => 2 + usize::from(datagram == right),
+        Ordering::Less => 4,
+        Ordering::Greater => 5 + usize::from(datagram[..right.len()] == right),
+        Ordering::Equal => 7 + usize::from(datagram[..8] == SENTINEL),
+    }
+}
+
+/// The setting's place among the kinds, by its count and parameters, its status and its object.
+fn setting_kind(counted: &[u8], status: u8, first: bool) -> Option<usize> {
+    let (count, parameters) = (counted[0], &counted[1..]);
+    let length = 20 + parameters.get(16..18).map_or(0, four);
+    match (first, status) {
+        (true, 0) => Some(usize::from(length > 20)),
+        (true, 4) if count != 2 => Some(2),
+        (true, 4) => Some(if parameters.len() < length { 3 } else { 4 }),
+        (true, 7) => Some(if parameters.ends_with(&[0, 0]) { 6 } else { 5 }),
+        (false, 11) => Some(7),
+        _ => None,
+    }
+}
+
+/// The rules of the mechanism that a record breaks.
+fn broken_rules(mechanism: &Mechanism) -> Vec<usize> {
+    let Mechanism {
+        armed,
+        key,
+        address,
+        port,
+    } = *mechanism;
+    let none = address == [0; 4];
+    let broken = [
+        armed && port == 0,
+        armed && address[0] < 224 && !none,
+        armed && address[0] > 239,
+        !armed && key != [0; 16],
+        !armed && !none,
+        !armed && port != 0,
+    ];
+    (0..RULES.len()).filter(|rule| broken[*rule]).collect()
+}
+
+/// The message that a delivery completed, and what comes behind it.
+fn decided(call: &Call) -> Vec<u8> {
+    let Call::Deliver {
+        record,
+        area,
+        n,
+        piece,
+        ..
+    } = call
+    else {
+        return Vec::new();
+    };
+    let n = usize::from(*n);
+    let held = usize::from(record.held[n]);
+    [&area[n * SHARE..n * SHARE + held], piece].concat()
+}
+
+/// The entries of a sound message at the front.
+fn entries(message: &[u8]) -> impl Iterator<Item = &[u8]> {
+    let size = message.get(3..7).map_or(0, four);
+    let mut rest = message.get(10..size + 1).unwrap_or_default();
+    std::iter::from_fn(move || {
+        let size = four(rest.get(..4)?);
+        let (entry, behind) = rest.split_at_checked(size.max(10))?;
+        rest = behind;
+        Some(entry)
+    })
+}
+
+fn four(bytes: &[u8]) -> usize {
+    bytes
+        .iter()
+        .fold(0, |sum, byte| (sum << 8) | usize::from(*byte))
+}
