@@ -5,13 +5,14 @@
 //! it shows.
 
 use compare::answer::{
-    Cleared, Closed, Delivered, Entry, MESSAGE, MORE, NOTIFICATION, Opened, Part, Reading, Taken,
-    Ticked, Written,
+    CLOSED, Cleared, Closed, Delivered, Entry, MESSAGE, MORE, NOTIFICATION, Opened, Part, Reading,
+    Reset, Taken, Ticked, Written,
 };
 use compare::engine::Engine;
 use compare::harness::gate;
-use compare::record::{AREA, Record};
-use compare::second::{Second, rules};
+use compare::harness::reset::{SENTINEL, asking};
+use compare::record::{AREA, Mechanism, Record};
+use compare::second::{Second, address, rules};
 
 // one list, so that no slip is named and not tried
 macro_rules! slips {
@@ -80,6 +81,42 @@ slips! {
     AppendTouchesBehind,
     CommandTypesMixed,
     SecondsCutTo16Bits,
+    SetResetKeyNotImplemented,
+    SilentCommandSetsNoKey,
+    EarlierKeyCounts,
+    AddressStaysWithoutText,
+    PortTurnedRound,
+    EmptyTextRefused,
+    PortZeroTaken,
+    FirstPart240Taken,
+    FirstPart223Taken,
+    LeadingZeroTaken,
+    SignTaken,
+    FifthPartTaken,
+    BytesBehindThePortTaken,
+    ValueBeforeLength,
+    CloseClearsTheKey,
+    TickClearsTheKey,
+    FaultClearsTheKey,
+    KeyIn15Bytes,
+    SentinelIn7Bytes,
+    LongerDatagramResets,
+    ResetsWhileDisarmed,
+    ZeroKeyIsNoKey,
+    ResetLosesTheReading,
+    ResetLeavesUndecidedBytes,
+    ResetKeepsTheirCount,
+    ResetKeepsConnections,
+    ResetKeepsMutes,
+    ResetStaysArmed,
+    WrongKeyDisarms,
+    DatagramIgnoresTheArea,
+    AreaBeforeRecord,
+    ArmedPortZeroUnseen,
+    ArmedAddressUnseen,
+    DisarmedKeyUnseen,
+    DisarmedAddressUnseen,
+    DisarmedPortUnseen,
 }
 
 #[test]
@@ -150,9 +187,87 @@ impl Slipping {
                     }
                 }
             }
-            _ => {}
+            _ => self.see_mechanism(&mut seen),
         }
         seen
+    }
+
+    /// The mechanism is seen otherwise only where no other rule is broken.
+    fn see_mechanism(&self, record: &mut Record) {
+        let mut seen = *record;
+        let mechanism = &mut seen.device.mechanism;
+        let multicast = address::is_multicast(mechanism.address);
+        match self.0 {
+            ArmedPortZeroUnseen if mechanism.armed => mechanism.port = mechanism.port.max(1),
+            ArmedAddressUnseen if mechanism.armed && !multicast => mechanism.address = [0; 4],
+            DisarmedKeyUnseen if !mechanism.armed => mechanism.key = [0; 16],
+            DisarmedAddressUnseen if !mechanism.armed => mechanism.address = [0; 4],
+            DisarmedPortUnseen if !mechanism.armed => mechanism.port = 0,
+            _ => {}
+        }
+        if rules::hold(&seen) {
+            *record = seen;
+        }
+    }
+
+    /// What a datagram is to a program that compares too little of it.
+    fn datagram_seen(&self, mechanism: &Mechanism, datagram: &[u8]) -> Vec<u8> {
+        let right = asking(&mechanism.key);
+        let seen = match self.0 {
+            KeyIn15Bytes => datagram.len() == 24 && datagram[..23] == right[..23],
+            SentinelIn7Bytes => {
+                let front = datagram.len() == 24 && datagram[..7] == SENTINEL[..7];
+                front && datagram[8..] == mechanism.key
+            }
+            LongerDatagramResets => datagram.len() == 25 && datagram[..24] == right,
+            _ => false,
+        };
+        if seen { right } else { datagram.to_vec() }
+    }
+
+    /// What a program makes of 3.14 that takes or refuses too much, if it is the only command.
+    fn setting_slips(
+        &self,
+        before: &Mechanism,
+        piece: &[u8],
+        answer: &mut Delivered,
+    ) -> Option<u8> {
+        let (count, parameters) = only_setting(piece)?;
+        let (text, port) = text_and_port(parameters)?;
+        let after = &mut answer.record.device.mechanism;
+        let set = *after != *before;
+        let exact = parameters.len() == 20 + text.len();
+        match self.0 {
+            SetResetKeyNotImplemented => return Some(8),
+            SilentCommandSetsNoKey if piece[7] == 0 => *after = *before,
+            EarlierKeyCounts if before.armed => *after = *before,
+            AddressStaysWithoutText if set && text.is_empty() => after.address = before.address,
+            PortTurnedRound if set => after.port = after.port.swap_bytes(),
+            ValueBeforeLength if count != 2 && exact && port == 0 => return Some(7),
+            BytesBehindThePortTaken if count == 2 && !exact => return Some(0),
+            _ if count != 2 || !exact => {}
+            EmptyTextRefused if text.is_empty() => return Some(7),
+            PortZeroTaken if port == 0 && address::read(text).is_some() => return Some(0),
+            _ if port != 0 && address::read(&self.text_seen(text)).is_some() => return Some(0),
+            _ => {}
+        }
+        None
+    }
+
+    /// What a text is to a program that takes too many; empty if no slip is made.
+    fn text_seen(&self, text: &[u8]) -> Vec<u8> {
+        let seen = match (self.0, String::from_utf8_lossy(text)) {
+            (FirstPart240Taken, seen) => seen.replacen("240.", "239.", 1),
+            (FirstPart223Taken, seen) => seen.replacen("223.", "224.", 1),
+            (LeadingZeroTaken, seen) => seen.replacen(".0", ".", 1),
+            (SignTaken, seen) => seen.replace('+', ""),
+            (FifthPartTaken, seen) => seen.rsplit_once('.').unwrap_or_default().0.to_string(),
+            _ => return b"none".to_vec(),
+        };
+        if seen.is_empty() || text.is_empty() {
+            return b"none".to_vec();
+        }
+        seen.into_bytes()
     }
 
     fn is(&self, slip: Slip) -> bool {
@@ -188,6 +303,27 @@ fn first_set(piece: &[u8]) -> Option<(usize, u8)> {
     let set = whole && piece[22..26] == [0, 4, 0, 2] && piece[18..20] == [0, 0];
     (set && piece[20] == 0x10 && (1..=8).contains(&piece[21]))
         .then(|| (usize::from(piece[21]) - 1, piece[27]))
+}
+
+/// The count and the parameters of the 3.14 that is the piece's only command.
+fn only_setting(piece: &[u8]) -> Option<(u8, &[u8])> {
+    let whole = piece.len() >= 27 && piece[7] < 2 && piece[8..10] == [0, 1];
+    let length = 1 + usize::from(u16::from_be_bytes([*piece.get(5)?, *piece.get(6)?]));
+    let set = whole && piece[18..26] == [0, 0, 0, 1, 0, 3, 0, 14];
+    set.then(|| {
+        piece
+            .get(27..length)
+            .map(|parameters| (piece[26], parameters))
+    })?
+}
+
+/// The text that the text length tells, and the port behind it.
+fn text_and_port(parameters: &[u8]) -> Option<(&[u8], u16)> {
+    let (length, rest) = parameters.get(16..)?.split_at_checked(2)?;
+    let length = usize::from(u16::from_be_bytes([length[0], length[1]]));
+    let (text, rest) = rest.split_at_checked(length)?;
+    let port = rest.get(..2)?;
+    Some((text, u16::from_be_bytes([port[0], port[1]])))
 }
 
 impl Engine for Slipping {
@@ -237,6 +373,7 @@ impl Engine for Slipping {
             CloseKeepsLocks => answer.record.device.holders = record.device.holders,
             CloseKeepsEntries => answer.record.device.subscriptions = record.device.subscriptions,
             CloseKeepsUndecidedBytes => area.copy_from_slice(&before),
+            CloseClearsTheKey => answer.record.device.mechanism = Mechanism::default(),
             _ => {}
         }
         answer
@@ -256,6 +393,9 @@ impl Engine for Slipping {
         let mut answer = Second.tick(self.seen(&record), area, reading);
         if answer.number != 0 {
             return answer;
+        }
+        if self.is(TickClearsTheKey) && answer.closed != 0 {
+            answer.record.device.mechanism = Mechanism::default();
         }
         for n in 0..8 {
             let before = record.device.connections[n];
@@ -298,6 +438,14 @@ impl Engine for Slipping {
         let mut answer = Second.deliver(self.seen(&record), area, n, piece, output);
         let at = usize::from(n).min(7);
         let before = record.device;
+        if answer.number == 0
+            && answer.kind == MESSAGE
+            && record.held[at] == 0
+            && let Some(status) = self.setting_slips(&before.mechanism, piece, &mut answer)
+            && answer.length > 0
+        {
+            output[18] = status;
+        }
         let set = only_set(piece);
         let connection = &mut answer.record.device.connections[at];
         let message = answer.number == 0 && answer.kind == MESSAGE;
@@ -348,6 +496,9 @@ impl Engine for Slipping {
                     output[18] = 10;
                 }
             }
+            FaultClearsTheKey if answer.kind == CLOSED => {
+                answer.record.device.mechanism = Mechanism::default();
+            }
             HandlesNotCopied if answer.length >= 20 => output[14..18].fill(0),
             DecidedBytesUnseen if answer.number == 2 && rules::hold(&record) => {
                 let decided = area.len() == AREA
@@ -383,6 +534,45 @@ impl Engine for Slipping {
             TakeKeepsQuiet if answer.kind == NOTIFICATION => {
                 let at = usize::from(answer.connection);
                 answer.record.device.connections[at].quiet = device.connections[at].quiet;
+            }
+            _ => {}
+        }
+        answer
+    }
+
+    fn datagram(&self, record: Record, area: &mut [u8], datagram: &[u8]) -> Reset {
+        let (before, device) = (area.to_vec(), record.device);
+        let mechanism = &device.mechanism;
+        if self.is(AreaBeforeRecord) && area.len() != AREA {
+            return Reset {
+                record,
+                number: 2,
+                reset: 0,
+            };
+        }
+        let seen = self.datagram_seen(mechanism, datagram);
+        let mut answer = Second.datagram(self.seen(&record), area, &seen);
+        if answer.number != 0 {
+            if self.is(DatagramIgnoresTheArea) && answer.number == 2 {
+                answer.number = 0;
+            }
+            return answer;
+        }
+        let reset = answer.reset == 1;
+        let after = &mut answer.record.device;
+        match self.0 {
+            ResetsWhileDisarmed if !mechanism.armed && datagram == asking(&[0; 16]) => {
+                answer.reset = 1;
+            }
+            ZeroKeyIsNoKey if mechanism.key == [0; 16] => answer.reset = 0,
+            ResetLosesTheReading if reset => after.reading = 0,
+            ResetLeavesUndecidedBytes if reset => area.copy_from_slice(&before),
+            ResetKeepsTheirCount if reset => answer.record.held = record.held,
+            ResetKeepsConnections if reset => after.connections = device.connections,
+            ResetKeepsMutes if reset => after.mutes = device.mutes,
+            ResetStaysArmed if reset => after.mechanism = device.mechanism,
+            WrongKeyDisarms if !reset && datagram.starts_with(&SENTINEL) => {
+                after.mechanism = Mechanism::default();
             }
             _ => {}
         }

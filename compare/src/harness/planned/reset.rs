@@ -97,26 +97,32 @@ pub fn every_length(desk: &mut Desk<'_, '_>) -> Checked<()> {
                 given.push((2, stated(&KEYS[4], length, text, port)));
             }
         }
-        for count in 1..=255 {
-            given.push((count, right.clone()));
-        }
         for port in (0..16).map(|bit| 1 << bit).chain([0, 65_535, 255]) {
             given.push((2, setting(&KEYS[0], text, port)));
         }
     }
-    given.push((0, Vec::new()));
+    given.extend(every_count());
     set_keys(desk, &given)
 }
 
-/// Sets keys by both types of command, a few in each message.
+/// Every count, and some together with a wrong text or port: 4 comes before 7.
+fn every_count() -> Vec<(u8, Vec<u8>)> {
+    let mut given = vec![(0, Vec::new())];
+    given.extend((1..=255).map(|count| (count, setting(&KEYS[1], b"224.0.0.1", 1))));
+    for count in [1, 2, 3, 130, 255] {
+        given.push((count, setting(&KEYS[1], b"224.0.0.1", 0)));
+        given.push((count, setting(&KEYS[1], b"240.0.0.1", 1)));
+        given.push((count, setting(&KEYS[1], b"240.0.0.1", 0)));
+    }
+    given
+}
+
+/// Sets keys one by one, now and then without a reply.
 fn set_keys(desk: &mut Desk<'_, '_>, given: &[(u8, Vec<u8>)]) -> Checked<()> {
-    for (place, some) in given.chunks(4).enumerate() {
-        let entries: Vec<Vec<u8>> = some
-            .iter()
-            .map(|(count, parameters)| command(2, 1, (3, 14), *count, parameters))
-            .collect();
-        let kind = u8::from(!place.is_multiple_of(8));
-        desk.deliver(0, &message(kind, &entries))?;
+    for (place, (count, parameters)) in given.iter().enumerate() {
+        let entry = command(2, 1, (3, 14), *count, parameters);
+        let kind = u8::from(!place.is_multiple_of(16));
+        desk.deliver(0, &message(kind, &[entry]))?;
     }
     Ok(())
 }
