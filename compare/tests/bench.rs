@@ -1,12 +1,13 @@
-//! The scope paper's bench examples and rules, run on the second program.
+//! The scope paper's bench examples and rules, and those of reset by key, run
+//! on the second program.
 
 use compare::answer::{CLOSED, KEEP_ALIVE, MESSAGE, MORE, NOTIFICATION};
 use compare::engine::Engine;
-use compare::record::{AREA, Record};
+use compare::record::{AREA, Mechanism, Record};
 use compare::second::device::class_bytes;
 use compare::second::listing::list;
 use compare::second::wire;
-use compare::second::{Second, rules};
+use compare::second::{Second, address, rules};
 
 const TWO_SECONDS: &str = "3B 00 01 00 00 00 0B 04 00 01 00 02";
 const TWO_THOUSAND: &str = "3B 00 01 00 00 00 0D 04 00 01 00 00 07 D0";
@@ -546,4 +547,328 @@ fn the_listing_prints_the_sample() {
     input.push(0);
     assert_eq!(list(&input), "0 4 1 11\n12 1 1 26\n39 stop 1\n");
     assert_eq!(list(&[]), "0 end\n");
+}
+
+const KEY: [u8; 16] = [7, 1, 2, 3, 4, 5, 6, 7, 8, 9, 10, 11, 12, 13, 14, 15];
+const SENTINEL: &str = "DE AF DA DA CA FE BA BE";
+
+/// The parameters of 3.14.
+fn setting(key: [u8; 16], text: &str, port: u16) -> Vec<u8> {
+    let mut bytes = key.to_vec();
+    bytes.extend((text.len() as u16).to_be_bytes());
+    bytes.extend(text.bytes());
+    bytes.extend(port.to_be_bytes());
+    bytes
+}
+
+/// The sentinel and the key.
+fn asking(key: [u8; 16]) -> Vec<u8> {
+    [hex(SENTINEL), key.to_vec()].concat()
+}
+
+impl Bench {
+    fn set_key(&mut self, n: u8, key: [u8; 16], text: &str, port: u16) -> u8 {
+        self.status(n, 1, (3, 14), 2, &setting(key, text, port))
+    }
+
+    /// Hands a datagram over; answers whether it reset the device.
+    fn datagram(&mut self, datagram: &[u8]) -> bool {
+        let (record, area) = (self.record, self.area.clone());
+        let answer = Second.datagram(self.record, &mut self.area, datagram);
+        assert_eq!(answer.number, 0);
+        if answer.reset == 0 {
+            assert!(answer.record == record && self.area == area);
+        }
+        self.keep(answer.record);
+        answer.reset == 1
+    }
+}
+
+#[test]
+fn the_key_is_set_as_the_request_says() {
+    let mut bench = Bench::open(1);
+    let command = hex("3B 00 01 00 00 00 38 01 00 01 \
+                       00 00 00 2F 00 00 00 05 00 00 00 01 00 03 00 0E 02 \
+                       07 01 02 03 04 05 06 07 08 09 0A 0B 0C 0D 0E 0F \
+                       00 0A 32 33 39 2E 30 2E 32 35 35 2E");
+    // The text is cut short of its last part: not an address.
+    let mut short = command.clone();
+    short.extend(hex("FD E9"));
+    let reply = hex("3B 00 01 00 00 00 13 03 00 01 00 00 00 0A 00 00 00 05 07 00");
+    assert_eq!(bench.send(0, &short), reply);
+    let mut whole = command;
+    whole.extend(hex("31 FD E9"));
+    (whole[6], whole[13], whole[44]) = (0x39, 0x30, 0x0B);
+    let reply = hex("3B 00 01 00 00 00 13 03 00 01 00 00 00 0A 00 00 00 05 00 00");
+    assert_eq!(bench.send(0, &whole), reply);
+    let mechanism = bench.record.device.mechanism;
+    assert!(mechanism.armed);
+    assert_eq!(mechanism.key, KEY);
+    assert_eq!(
+        (mechanism.address, mechanism.port),
+        ([239, 0, 255, 1], 65_001)
+    );
+}
+
+#[test]
+fn the_key_resets_a_hung_rack() {
+    let mut bench = Bench::open(3);
+    bench.send(2, &hex(TWO_SECONDS));
+    bench.send(0, &hex(LOCK));
+    assert_eq!(bench.status(1, 4, (3, 1), 5, &adding(4_098, 9, 0)), 0);
+    assert_eq!(bench.status(0, 4_098, (4, 2), 1, &[1]), 0);
+    assert_eq!(bench.set_key(1, KEY, "", 65_001), 0);
+    bench.tick(1_500);
+    bench.deliver(1, &hex(LOCK)[..20]);
+    assert_eq!(bench.record.held[1], 20);
+    assert!(bench.datagram(&asking(KEY)));
+    assert_eq!(bench.record, Second.fresh(1_500));
+    assert!(bench.area.iter().all(|byte| *byte == 0));
+    // The mechanism is disarmed, and demand 3 counts anew.
+    assert!(!bench.datagram(&asking(KEY)));
+    assert!(!bench.datagram(&asking([0; 16])));
+    let opened = Second.open(bench.record);
+    assert_eq!((opened.number, opened.connection), (0, 0));
+    bench.keep(opened.record);
+    assert_eq!(bench.send(0, &hex(LOCK)), hex(LOCKED));
+    assert_eq!(bench.take(), (0, 0, vec![]));
+}
+
+#[test]
+fn only_the_sentinel_and_the_key_reset() {
+    let mut bench = Bench::open(1);
+    assert!(!bench.datagram(&asking(KEY)));
+    assert!(!bench.datagram(&asking([0; 16])));
+    for key in [KEY, [0; 16]] {
+        assert_eq!(bench.set_key(0, key, "224.0.0.1", 1), 0);
+        let right = asking(key);
+        for length in (0..=64).filter(|length| *length != 24) {
+            let mut datagram = right.clone();
+            datagram.resize(length, 0);
+            assert!(!bench.datagram(&datagram));
+        }
+        for bit in 0..192 {
+            let mut datagram = right.clone();
+            datagram[bit / 8] ^= 1 << (bit % 8);
+            assert!(!bench.datagram(&datagram));
+        }
+    }
+    assert!(bench.datagram(&asking([0; 16])));
+}
+
+#[test]
+fn the_latest_key_counts_and_a_closure_leaves_it() {
+    let mut bench = Bench::open(3);
+    let other = [9; 16];
+    assert_eq!(bench.set_key(0, other, "230.1.2.3", 5), 0);
+    assert_eq!(bench.set_key(1, KEY, "", 6), 0);
+    let mechanism = bench.record.device.mechanism;
+    assert_eq!((mechanism.address, mechanism.port), ([0; 4], 6));
+    // One that fails leaves the key that counts.
+    assert_eq!(bench.set_key(2, other, "", 0), 7);
+    bench.send(2, &hex(TWO_SECONDS));
+    assert_eq!(bench.tick(6_000), 4);
+    assert_eq!(bench.deliver(1, &[0]), (CLOSED, 1, 1, vec![]));
+    let closed = Second.close(bench.record, &mut bench.area, 0);
+    assert_eq!(closed.number, 0);
+    bench.keep(closed.record);
+    assert_eq!(bench.record.device.mechanism, mechanism);
+    assert!(!bench.datagram(&asking(other)));
+    assert!(bench.datagram(&asking(KEY)));
+}
+
+#[test]
+fn a_command_without_reply_sets_the_key_too() {
+    let mut bench = Bench::open(1);
+    let unasked = wire::message(0, &[command(1, 1, (3, 14), 2, &setting(KEY, "", 1))]);
+    assert_eq!(bench.send(0, &unasked), []);
+    assert!(bench.datagram(&asking(KEY)));
+}
+
+#[test]
+fn the_text_is_empty_or_a_multicast_address() {
+    let mut bench = Bench::open(1);
+    for (text, address) in [
+        ("", [0, 0, 0, 0]),
+        ("224.0.0.0", [224, 0, 0, 0]),
+        ("239.255.255.255", [239, 255, 255, 255]),
+        ("231.10.100.9", [231, 10, 100, 9]),
+    ] {
+        assert_eq!(bench.set_key(0, KEY, text, 65_535), 0);
+        assert_eq!(bench.record.device.mechanism.address, address);
+    }
+    for text in [
+        "223.255.255.255",
+        "240.0.0.1",
+        "0.0.0.0",
+        "224",
+        "224.0.0",
+        "224.0.0.",
+        "224.0.0.1.",
+        "224.0.0.1.2",
+        ".224.0.0.1",
+        "224..0.1",
+        "224.0.0.01",
+        "224.00.0.1",
+        "0224.0.0.1",
+        "224.0.0.256",
+        "224.0.0.+1",
+        "224.0.0.-1",
+        " 224.0.0.1",
+        "224.0.0.1 ",
+        "224.0. 0.1",
+        "224.0.0.a",
+        "224.0.0.1\0",
+        "...",
+        ".",
+        "name",
+        "224.0.0.4294967297",
+        "224.0.0.é",
+        "224,0,0,1",
+    ] {
+        assert_eq!(bench.set_key(0, KEY, text, 1), 7, "{text}");
+    }
+    assert_eq!(bench.record.device.mechanism.address, [231, 10, 100, 9]);
+}
+
+#[test]
+fn every_part_of_up_to_four_digits_is_read_right() {
+    for length in 1..=4 {
+        for number in 0..10_usize.pow(length) {
+            let part = format!("{number:0width$}", width = length as usize);
+            let plain = number.to_string() == part && number < 256;
+            for place in 1..4 {
+                let mut parts = ["224", "1", "2", "3"];
+                parts[place] = &part;
+                let read = address::read(parts.join(".").as_bytes());
+                let mut right = [224, 1, 2, 3];
+                right[place] = number as u8;
+                assert_eq!(read, plain.then_some(right));
+            }
+            let read = address::read(format!("{part}.1.2.3").as_bytes());
+            let multicast = plain && (224..=239).contains(&number);
+            assert_eq!(read, multicast.then_some([number as u8, 1, 2, 3]));
+        }
+    }
+}
+
+#[test]
+fn statuses_of_setting_the_key_come_in_their_order() {
+    let mut bench = Bench::open(1);
+    let right = setting(KEY, "224.0.0.1", 1);
+    for (target, status) in [(2, 5), (4, 11), (4_097, 11), (4_104, 11)] {
+        assert_eq!(bench.status(0, target, (3, 14), 2, &right), status);
+    }
+    for method in [(3, 13), (3, 15), (2, 14)] {
+        assert_eq!(bench.status(0, 1, method, 2, &right), 11);
+    }
+    // A wrong count or length comes before a wrong text or port.
+    for (count, bytes) in [
+        (1, &right[..]),
+        (3, &right),
+        (2, &right[..28]),
+        (2, &[]),
+        (0, &[]),
+    ] {
+        assert_eq!(bench.status(0, 1, (3, 14), count, bytes), 4);
+    }
+    let wrong = setting(KEY, "240.0.0.1", 0);
+    assert_eq!(bench.status(0, 1, (3, 14), 1, &wrong), 4);
+    let longer = [&wrong[..], &[0]].concat();
+    assert_eq!(bench.status(0, 1, (3, 14), 2, &longer), 4);
+    for by in [1, 255] {
+        let mut stated = right.clone();
+        stated[17] = stated[17].wrapping_add(by);
+        assert_eq!(bench.status(0, 1, (3, 14), 2, &stated), 4);
+    }
+    assert_eq!(bench.status(0, 1, (3, 14), 2, &wrong), 7);
+    assert_eq!(bench.set_key(0, KEY, "224.0.0.1", 0), 7);
+    assert_eq!(bench.record.device.mechanism, Mechanism::default());
+    assert_eq!(bench.status(0, 1, (3, 14), 2, &right), 0);
+}
+
+#[test]
+fn a_mechanism_keeps_its_rules() {
+    let armed = |address, port| Mechanism {
+        armed: true,
+        key: KEY,
+        address,
+        port,
+    };
+    let zero = Mechanism::default();
+    for (mechanism, number) in [
+        (zero, 0),
+        (armed([0; 4], 1), 0),
+        (armed([224, 0, 0, 0], 65_535), 0),
+        (armed([239, 255, 255, 255], 1), 0),
+        (
+            Mechanism {
+                key: [0; 16],
+                ..armed([0; 4], 1)
+            },
+            0,
+        ),
+        (armed([0; 4], 0), 1),
+        (armed([224, 0, 0, 0], 0), 1),
+        (armed([223, 255, 255, 255], 1), 1),
+        (armed([240, 0, 0, 0], 1), 1),
+        (armed([0, 0, 0, 1], 1), 1),
+        (Mechanism { key: KEY, ..zero }, 1),
+        (
+            Mechanism {
+                address: [0, 0, 0, 1],
+                ..zero
+            },
+            1,
+        ),
+        (
+            Mechanism {
+                address: [224, 0, 0, 0],
+                ..zero
+            },
+            1,
+        ),
+        (Mechanism { port: 1, ..zero }, 1),
+    ] {
+        let Bench {
+            mut record,
+            mut area,
+            mut output,
+        } = Bench::open(1);
+        record.device.mechanism = mechanism;
+        let piece = hex(TWO_SECONDS);
+        let numbers = [
+            Second.open(record).number,
+            Second.take(record, &mut output).number,
+            Second.tick(record, &mut area, 1).number,
+            Second.datagram(record, &mut area, &[]).number,
+            Second
+                .deliver(record, &mut area, 0, &piece, &mut output)
+                .number,
+            Second.close(record, &mut area, 0).number,
+        ];
+        assert_eq!(numbers, [number; 6], "{mechanism:?}");
+    }
+}
+
+#[test]
+fn the_datagram_call_refuses_by_record_and_area_alone() {
+    let mut bench = Bench::open(1);
+    assert_eq!(bench.set_key(0, KEY, "", 1), 0);
+    let mut bad = bench.record;
+    bad.device.mutes[0] = 0;
+    let mut dirty = bench.area.clone();
+    dirty[AREA - 1] = 1;
+    for (record, mut area, number) in [
+        (bad, dirty.clone(), 1),
+        (bad, vec![], 1),
+        (bench.record, dirty, 2),
+        (bench.record, vec![0; AREA - 1], 2),
+        (bench.record, vec![0; AREA + 1], 2),
+    ] {
+        let before = area.clone();
+        let answer = Second.datagram(record, &mut area, &asking(KEY));
+        assert_eq!((answer.number, answer.reset), (number, 0));
+        assert!(answer.record == record && area == before);
+    }
 }

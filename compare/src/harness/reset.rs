@@ -126,7 +126,11 @@ fn any_port(random: &mut Random) -> u16 {
 pub fn any_setting(random: &mut Random) -> Vec<u8> {
     let key = any_key(random);
     let port = any_port(random);
-    let text = random.pick(&GOOD_TEXTS);
+    let text = if random.chance(25) {
+        b""
+    } else {
+        random.pick(&GOOD_TEXTS)
+    };
     match random.weighted(&[44, 8, 16, 10, 8, 8, 6]) {
         0 => setting(&key, text, port),
         1 => setting(&key, any_address(random).as_bytes(), port),

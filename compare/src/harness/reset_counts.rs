@@ -7,11 +7,12 @@ use crate::answer::Reset;
 use crate::record::{Mechanism, Record, SHARE};
 use std::cmp::Ordering;
 
+/// Two resets, then why nothing is changed.
 const DATAGRAMS: [&str; 9] = [
-    "reset",
-    "reset by the zero key",
+    "by a key",
+    "by the zero key",
     "disarmed",
-    "disarmed, zero key",
+    "disarmed and zero key",
     "too short",
     "too long",
     "right and more",
@@ -28,27 +29,28 @@ const ENDED: [&str; 5] = [
     "mutes",
 ];
 
+/// Status 0, the third besides one of the first two; then why another status is given.
 const SETTINGS: [&str; 9] = [
-    "0 without text",
-    "0 with an address",
+    "without text",
+    "with an address",
+    "over another key",
     "4 by the count",
     "4 by too few bytes",
     "4 by too many bytes",
     "7 by the text",
     "7 with port 0",
     "11 elsewhere",
-    "0 in place of another key",
 ];
-/// Counts besides one of the first two.
-const REPLACED: usize = SETTINGS.len() - 1;
+const OVER_ANOTHER: usize = 2;
 
+/// Three rules of the armed, three of the disarmed.
 const RULES: [&str; 6] = [
-    "armed, port 0",
-    "armed, address below 224",
-    "armed, address above 239",
-    "disarmed, key",
-    "disarmed, address",
-    "disarmed, port",
+    "armed with port 0",
+    "address below 224",
+    "address above 239",
+    "disarmed with a key",
+    "with an address",
+    "with a port",
 ];
 
 /// The calls that are given a record.
@@ -72,13 +74,13 @@ impl ResetCounts {
         if let Some(record) = call.record() {
             self.count_mechanism(call.place(), record, outcome.answer.number());
         }
-        match (call, outcome.answer) {
+        match (call, &outcome.answer) {
             (
                 Call::Datagram {
                     record, datagram, ..
                 },
                 Answer::Reset(answer),
-            ) if answer.number == 0 => self.count_datagram(record, datagram, &answer),
+            ) if answer.number == 0 => self.count_datagram(record, datagram, answer),
             (Call::Deliver { record, .. }, Answer::Delivered(answer)) if answer.length > 0 => {
                 let reply = outcome.output.get(..answer.length).unwrap_or_default();
                 self.count_settings(record, &decided(call), reply);
@@ -127,7 +129,7 @@ impl ResetCounts {
                 self.settings[kind] += 1;
             }
             let taken = response[8] == 0;
-            self.settings[REPLACED] += u64::from(taken && armed);
+            self.settings[OVER_ANOTHER] += u64::from(taken && armed);
             armed |= taken;
         }
     }
@@ -146,7 +148,7 @@ impl ResetCounts {
     /// Everything that has to come, with how often it came.
     pub fn lines(&self) -> Vec<(String, u64)> {
         let mut lines = Vec::new();
-        lines.extend(labelled("datagram: ", &DATAGRAMS, &self.datagrams));
+        lines.extend(labelled("datagram, ", &DATAGRAMS, &self.datagrams));
         lines.extend(labelled("reset ended ", &ENDED, &self.ended));
         lines.extend(labelled("3.14: ", &SETTINGS, &self.settings));
         for (place, name) in NAMES.iter().enumerate() {
@@ -160,16 +162,20 @@ impl ResetCounts {
     }
 
     /// The table's rows; the rules are added up over the calls.
-    pub fn rows(&self) -> [(&'static str, String); 5] {
+    pub fn rows(&self) -> [(&'static str, String); 7] {
         let mut broken = [0; RULES.len()];
         for counts in &self.broken {
             add_all(&mut broken, counts);
         }
         let armed: u64 = self.armed.iter().sum();
+        let (resets, nothing) = self.datagrams.split_at(2);
+        let (taken, refused) = self.settings.split_at(3);
         [
-            ("datagrams", told(&DATAGRAMS, &self.datagrams)),
+            ("resets", told(&DATAGRAMS[..2], resets)),
             ("resets that ended", told(&ENDED, &self.ended)),
-            ("statuses of 3.14", told(&SETTINGS, &self.settings)),
+            ("datagrams for nothing", told(&DATAGRAMS[2..], nothing)),
+            ("3.14 with status 0", told(&SETTINGS[..3], taken)),
+            ("3.14 with another", told(&SETTINGS[3..], refused)),
             ("mechanisms refused", told(&RULES, &broken)),
             ("calls done while armed", armed.to_string()),
         ]
@@ -191,7 +197,7 @@ fn told(labels: &[&str], counts: &[u64]) -> String {
         .zip(counts)
         .map(|(label, count)| format!("{label}: {count}"))
         .collect();
-    cells.join("; ")
+    cells.join(", ")
 }
 
 /// The datagram's place among the kinds; of several reasons the first.
@@ -213,10 +219,10 @@ fn setting_kind(counted: &[u8], status: u8, first: bool) -> Option<usize> {
     let length = 20 + parameters.get(16..18).map_or(0, four);
     match (first, status) {
         (true, 0) => Some(usize::from(length > 20)),
-        (true, 4) if count != 2 => Some(2),
-        (true, 4) => Some(if parameters.len() < length { 3 } else { 4 }),
-        (true, 7) => Some(if parameters.ends_with(&[0, 0]) { 6 } else { 5 }),
-        (false, 11) => Some(7),
+        (true, 4) if count != 2 => Some(3),
+        (true, 4) => Some(if parameters.len() < length { 4 } else { 5 }),
+        (true, 7) => Some(if parameters.ends_with(&[0, 0]) { 7 } else { 6 }),
+        (false, 11) => Some(8),
         _ => None,
     }
 }
