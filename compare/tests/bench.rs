@@ -685,6 +685,36 @@ fn a_command_without_reply_sets_the_key_too() {
     assert!(bench.datagram(&asking(KEY)));
 }
 
+const WRONG_TEXTS: [&str; 27] = [
+    "223.255.255.255",
+    "240.0.0.1",
+    "0.0.0.0",
+    "224",
+    "224.0.0",
+    "224.0.0.",
+    "224.0.0.1.",
+    "224.0.0.1.2",
+    ".224.0.0.1",
+    "224..0.1",
+    "224.0.0.01",
+    "224.00.0.1",
+    "0224.0.0.1",
+    "224.0.0.256",
+    "224.0.0.+1",
+    "224.0.0.-1",
+    " 224.0.0.1",
+    "224.0.0.1 ",
+    "224.0. 0.1",
+    "224.0.0.a",
+    "224.0.0.1\0",
+    "...",
+    ".",
+    "name",
+    "224.0.0.4294967297",
+    "224.0.0.é",
+    "224,0,0,1",
+];
+
 #[test]
 fn the_text_is_empty_or_a_multicast_address() {
     let mut bench = Bench::open(1);
@@ -697,35 +727,7 @@ fn the_text_is_empty_or_a_multicast_address() {
         assert_eq!(bench.set_key(0, KEY, text, 65_535), 0);
         assert_eq!(bench.record.device.mechanism.address, address);
     }
-    for text in [
-        "223.255.255.255",
-        "240.0.0.1",
-        "0.0.0.0",
-        "224",
-        "224.0.0",
-        "224.0.0.",
-        "224.0.0.1.",
-        "224.0.0.1.2",
-        ".224.0.0.1",
-        "224..0.1",
-        "224.0.0.01",
-        "224.00.0.1",
-        "0224.0.0.1",
-        "224.0.0.256",
-        "224.0.0.+1",
-        "224.0.0.-1",
-        " 224.0.0.1",
-        "224.0.0.1 ",
-        "224.0. 0.1",
-        "224.0.0.a",
-        "224.0.0.1\0",
-        "...",
-        ".",
-        "name",
-        "224.0.0.4294967297",
-        "224.0.0.é",
-        "224,0,0,1",
-    ] {
+    for text in WRONG_TEXTS {
         assert_eq!(bench.set_key(0, KEY, text, 1), 7, "{text}");
     }
     assert_eq!(bench.record.device.mechanism.address, [231, 10, 100, 9]);
@@ -787,68 +789,96 @@ fn statuses_of_setting_the_key_come_in_their_order() {
     assert_eq!(bench.status(0, 1, (3, 14), 2, &right), 0);
 }
 
+const DISARMED: Mechanism = Mechanism {
+    armed: false,
+    key: [0; 16],
+    address: [0; 4],
+    port: 0,
+};
+const ARMED: Mechanism = Mechanism {
+    armed: true,
+    key: KEY,
+    address: [0; 4],
+    port: 1,
+};
+
 #[test]
 fn a_mechanism_keeps_its_rules() {
-    let armed = |address, port| Mechanism {
-        armed: true,
-        key: KEY,
-        address,
-        port,
-    };
-    let zero = Mechanism::default();
-    for (mechanism, number) in [
-        (zero, 0),
-        (armed([0; 4], 1), 0),
-        (armed([224, 0, 0, 0], 65_535), 0),
-        (armed([239, 255, 255, 255], 1), 0),
-        (
-            Mechanism {
-                key: [0; 16],
-                ..armed([0; 4], 1)
-            },
-            0,
-        ),
-        (armed([0; 4], 0), 1),
-        (armed([224, 0, 0, 0], 0), 1),
-        (armed([223, 255, 255, 255], 1), 1),
-        (armed([240, 0, 0, 0], 1), 1),
-        (armed([0, 0, 0, 1], 1), 1),
-        (Mechanism { key: KEY, ..zero }, 1),
-        (
-            Mechanism {
-                address: [0, 0, 0, 1],
-                ..zero
-            },
-            1,
-        ),
-        (
-            Mechanism {
-                address: [224, 0, 0, 0],
-                ..zero
-            },
-            1,
-        ),
-        (Mechanism { port: 1, ..zero }, 1),
-    ] {
-        let Bench {
-            mut record,
-            mut area,
-            mut output,
-        } = Bench::open(1);
-        record.device.mechanism = mechanism;
-        let piece = hex(TWO_SECONDS);
-        let numbers = [
-            Second.open(record).number,
-            Second.take(record, &mut output).number,
-            Second.tick(record, &mut area, 1).number,
-            Second.datagram(record, &mut area, &[]).number,
-            Second
-                .deliver(record, &mut area, 0, &piece, &mut output)
-                .number,
-            Second.close(record, &mut area, 0).number,
-        ];
-        assert_eq!(numbers, [number; 6], "{mechanism:?}");
-    }
+    let at = |address| Mechanism { address, ..ARMED };
+    let zero = [0; 16];
+    numbered(DISARMED, 0);
+    numbered(ARMED, 0);
+    numbered(at([224, 0, 0, 0]), 0);
+    numbered(at([239, 255, 255, 255]), 0);
+    numbered(Mechanism { key: zero, ..ARMED }, 0);
+    numbered(
+        Mechanism {
+            port: 65_535,
+            ..ARMED
+        },
+        0,
+    );
+    numbered(Mechanism { port: 0, ..ARMED }, 1);
+    numbered(
+        Mechanism {
+            port: 0,
+            ..at([224, 0, 0, 0])
+        },
+        1,
+    );
+    numbered(at([223, 255, 255, 255]), 1);
+    numbered(at([240, 0, 0, 0]), 1);
+    numbered(at([0, 0, 0, 1]), 1);
+    numbered(
+        Mechanism {
+            key: KEY,
+            ..DISARMED
+        },
+        1,
+    );
+    numbered(
+        Mechanism {
+            address: [0, 0, 0, 1],
+            ..DISARMED
+        },
+        1,
+    );
+    numbered(
+        Mechanism {
+            address: [224, 0, 0, 0],
+            ..DISARMED
+        },
+        1,
+    );
+    numbered(
+        Mechanism {
+            port: 1,
+            ..DISARMED
+        },
+        1,
+    );
+}
+
+/// Every call that is given a record with this mechanism answers with the number.
+fn numbered(mechanism: Mechanism, number: u8) {
+    let Bench {
+        mut record,
+        mut area,
+        mut output,
+    } = Bench::open(1);
+    record.device.mechanism = mechanism;
+    let piece = hex(TWO_SECONDS);
+    let numbers = [
+        Second.open(record).number,
+        Second.take(record, &mut output).number,
+        Second.tick(record, &mut area, 1).number,
+        Second.datagram(record, &mut area, &[]).number,
+        Second
+            .deliver(record, &mut area, 0, &piece, &mut output)
+            .number,
+        Second.close(record, &mut area, 0).number,
+    ];
+    assert_eq!(numbers, [number; 6], "{mechanism:?}");
 }
 
 #[test]

@@ -207,20 +207,29 @@ impl Counts {
             ));
             lines.push((format!("type {kind} read"), self.read_types[kind]));
         }
-        lines.push(("delivery: more needed".to_string(), self.more));
-        lines.push(("delivery: replies".to_string(), self.replies));
-        lines.push(("closures by fault".to_string(), self.closed_by_fault));
-        lines.push(("closures by the host".to_string(), self.closed_by_host));
-        lines.push(("closures by tick".to_string(), self.closed_by_tick));
-        lines.push(("taken: notifications".to_string(), self.notifications));
-        lines.push(("taken: keep-alives".to_string(), self.keep_alives));
-        lines.push(("taken: nothing".to_string(), self.nothing));
-        lines.push(("parts with bytes".to_string(), self.parts));
-        lines.push(("parts without bytes".to_string(), self.empty_parts));
-        let label = "ticks whose sum does not fit 64 bits".to_string();
-        lines.push((label, self.overruns_tried));
+        lines.extend(
+            self.single_lines()
+                .map(|(label, count)| (label.to_string(), count)),
+        );
         lines.extend(self.reset.lines());
         lines
+    }
+
+    fn single_lines(&self) -> impl Iterator<Item = (&'static str, u64)> {
+        [
+            ("delivery: more needed", self.more),
+            ("delivery: replies", self.replies),
+            ("closures by fault", self.closed_by_fault),
+            ("closures by the host", self.closed_by_host),
+            ("closures by tick", self.closed_by_tick),
+            ("taken: notifications", self.notifications),
+            ("taken: keep-alives", self.keep_alives),
+            ("taken: nothing", self.nothing),
+            ("parts with bytes", self.parts),
+            ("parts without bytes", self.empty_parts),
+            ("ticks whose sum does not fit 64 bits", self.overruns_tried),
+        ]
+        .into_iter()
     }
 
     fn refused(&self, name: &str, number: u8) -> u64 {

@@ -5,6 +5,35 @@ use crate::harness::desk::Desk;
 use crate::harness::session::Checked;
 use crate::harness::traffic::{self, command, message};
 
+/// Counts and lengths that some method wants, and some that none wants.
+const ARGUMENTS: [(u8, usize); 8] = [
+    (0, 0),
+    (1, 1),
+    (5, 23),
+    (2, 16),
+    (2, 20),
+    (1, 0),
+    (5, 22),
+    (2, 17),
+];
+/// Objects there are and are not.
+const TARGETS: [u32; 14] = [
+    0,
+    1,
+    2,
+    3,
+    4,
+    5,
+    4_096,
+    4_097,
+    4_098,
+    4_103,
+    4_104,
+    4_105,
+    8_193,
+    u32::MAX,
+];
+
 /// Every byte of every sample changed, in several ways.
 pub fn damaged_samples(desk: &mut Desk<'_, '_>) -> Checked<()> {
     desk.open()?;
@@ -124,37 +153,11 @@ pub fn byte_by_byte(desk: &mut Desk<'_, '_>) -> Checked<()> {
 pub fn every_method(desk: &mut Desk<'_, '_>) -> Checked<()> {
     desk.open()?;
     desk.open()?;
-    let arguments = [
-        (0, 0),
-        (1, 1),
-        (5, 23),
-        (2, 16),
-        (2, 20),
-        (1, 0),
-        (5, 22),
-        (2, 17),
-    ];
-    let targets = [
-        0,
-        1,
-        2,
-        3,
-        4,
-        5,
-        4_096,
-        4_097,
-        4_098,
-        4_103,
-        4_104,
-        4_105,
-        8_193,
-        u32::MAX,
-    ];
     let mut entries = Vec::new();
-    for target in targets {
+    for target in TARGETS {
         for level in 0..6 {
             for index in [0, 1, 2, 3, 4, 5, 13, 14, 15, 257] {
-                let (count, length) = desk.random.pick(&arguments);
+                let (count, length) = desk.random.pick(&ARGUMENTS);
                 let rest = arguments_of(desk, level, length);
                 entries.push(command(
                     desk.random.word(),
@@ -163,7 +166,7 @@ pub fn every_method(desk: &mut Desk<'_, '_>) -> Checked<()> {
                     count,
                     &rest,
                 ));
-                for (count, length) in arguments {
+                for (count, length) in ARGUMENTS {
                     if level == 1 || (level > 2 && index < 3) || index == 14 {
                         let rest = arguments_of(desk, level, length);
                         entries.push(command(7, target, (level, index), count, &rest));
