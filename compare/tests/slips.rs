@@ -205,7 +205,7 @@ impl Slipping {
             DisarmedPortUnseen if !mechanism.armed => mechanism.port = 0,
             _ => {}
         }
-        if rules::hold(&seen) {
+        if seen != *record && rules::hold(&seen) {
             *record = seen;
         }
     }
