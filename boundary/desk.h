@@ -1,4 +1,4 @@
-/* What the boundary's programs share: checks that count, and commands as bytes. */
+/* What the boundary's programs share: checks that count, records compared, and commands as bytes. */
 #ifndef DESK_H
 #define DESK_H
 
@@ -11,6 +11,8 @@
 #define LOCK 0x00010003u
 #define SET 0x00040002u
 #define ADD 0x00030001u
+#define SET_RESET_KEY 0x0003000Eu
+#define DEVICE_MANAGER 1u
 #define FIRST_MUTE 4097u
 
 static unsigned checked, wrong;
@@ -31,6 +33,61 @@ static inline int verdict(const char *program)
     return wrong == 0 && checked > 0 ? 0 : 1;
 }
 
+/* A field of two structs got and want. */
+#define SAME(field) expect(#field, got->field, want->field)
+
+static inline void same_connection(const melorwyth_connection *got, const melorwyth_connection *want)
+{
+    SAME(live);
+    SAME(form);
+    SAME(beat);
+    SAME(silence);
+    SAME(quiet);
+    SAME(due);
+}
+
+static inline void same_subscription(const melorwyth_subscription *got, const melorwyth_subscription *want)
+{
+    SAME(used);
+    SAME(waiting);
+    SAME(connection);
+    SAME(emitter);
+    SAME(event);
+    SAME(object);
+    SAME(method);
+    SAME(context);
+}
+
+static inline void same_mechanism(const melorwyth_mechanism *got, const melorwyth_mechanism *want)
+{
+    SAME(armed);
+    for (int i = 0; i < MELORWYTH_KEY; i++)
+        SAME(key[i]);
+    for (int i = 0; i < 4; i++)
+        SAME(address[i]);
+    SAME(port);
+}
+
+/* Compares every field of two records. */
+static inline void same(const char *after, const melorwyth_record *got, const melorwyth_record *want)
+{
+    unsigned before = wrong;
+    SAME(device.reading);
+    for (int i = 0; i < MELORWYTH_CONNECTIONS; i++)
+        same_connection(&got->device.connections[i], &want->device.connections[i]);
+    for (int i = 0; i < MELORWYTH_SUBSCRIPTIONS; i++)
+        same_subscription(&got->device.subscriptions[i], &want->device.subscriptions[i]);
+    for (int i = 0; i < MELORWYTH_MUTES; i++) {
+        SAME(device.mutes[i]);
+        SAME(device.holders[i]);
+    }
+    same_mechanism(&got->device.mechanism, &want->device.mechanism);
+    for (int i = 0; i < MELORWYTH_CONNECTIONS; i++)
+        SAME(held[i]);
+    if (wrong != before)
+        printf("... after %s\n", after);
+}
+
 static inline void put32(uint8_t *at, uint32_t value)
 {
     at[0] = (uint8_t)(value >> 24);
@@ -43,7 +100,7 @@ static inline void put32(uint8_t *at, uint32_t value)
 static inline size_t command(uint8_t buffer[MELORWYTH_BUFFER], uint32_t handle, uint32_t target, uint32_t method,
                              uint8_t count, const uint8_t *parameters, size_t length)
 {
-    uint8_t entry[64];
+    uint8_t entry[96];
     put32(entry, (uint32_t)(17 + length));
     put32(entry + 4, handle);
     put32(entry + 8, target);
@@ -54,6 +111,27 @@ static inline size_t command(uint8_t buffer[MELORWYTH_BUFFER], uint32_t handle, 
     melorwyth_written w = melorwyth_start(buffer, MELORWYTH_BUFFER, MELORWYTH_TYPE_COMMAND_WANTING_REPLY, entry, 17 + length);
     expect("a command is written", w.number, MELORWYTH_DONE);
     return w.length;
+}
+
+/* The parameters of 3.14: key, text length, text, port. Their length. */
+static inline size_t arming(uint8_t parameters[64], const uint8_t key[MELORWYTH_KEY], const char *text, uint16_t port)
+{
+    size_t length = strlen(text);
+    memcpy(parameters, key, MELORWYTH_KEY);
+    parameters[16] = (uint8_t)(length >> 8);
+    parameters[17] = (uint8_t)length;
+    memcpy(parameters + 18, text, length);
+    parameters[18 + length] = (uint8_t)(port >> 8);
+    parameters[19 + length] = (uint8_t)port;
+    return 20 + length;
+}
+
+/* The datagram that resets: the sentinel, then the key. */
+static inline void datagram_of(uint8_t datagram[MELORWYTH_DATAGRAM], const uint8_t key[MELORWYTH_KEY])
+{
+    static const uint8_t sentinel[] = MELORWYTH_SENTINEL;
+    memcpy(datagram, sentinel, sizeof sentinel);
+    memcpy(datagram + sizeof sentinel, key, MELORWYTH_KEY);
 }
 
 #endif

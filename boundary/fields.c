@@ -7,49 +7,6 @@ static uint8_t area[MELORWYTH_AREA], output[MELORWYTH_OUTPUT], message[MELORWYTH
 static melorwyth_record record; /* as the calls hand it back */
 static melorwyth_record wanted; /* as it has to be */
 
-/* A field of two structs got and want. */
-#define SAME(field) expect(#field, got->field, want->field)
-
-static void same_connection(const melorwyth_connection *got, const melorwyth_connection *want)
-{
-    SAME(live);
-    SAME(form);
-    SAME(beat);
-    SAME(silence);
-    SAME(quiet);
-    SAME(due);
-}
-
-static void same_subscription(const melorwyth_subscription *got, const melorwyth_subscription *want)
-{
-    SAME(used);
-    SAME(waiting);
-    SAME(connection);
-    SAME(emitter);
-    SAME(event);
-    SAME(object);
-    SAME(method);
-    SAME(context);
-}
-
-static void same(const char *after, const melorwyth_record *got, const melorwyth_record *want)
-{
-    unsigned before = wrong;
-    SAME(device.reading);
-    for (int i = 0; i < MELORWYTH_CONNECTIONS; i++)
-        same_connection(&got->device.connections[i], &want->device.connections[i]);
-    for (int i = 0; i < MELORWYTH_SUBSCRIPTIONS; i++)
-        same_subscription(&got->device.subscriptions[i], &want->device.subscriptions[i]);
-    for (int i = 0; i < MELORWYTH_MUTES; i++) {
-        SAME(device.mutes[i]);
-        SAME(device.holders[i]);
-    }
-    for (int i = 0; i < MELORWYTH_CONNECTIONS; i++)
-        SAME(held[i]);
-    if (wrong != before)
-        printf("... after %s\n", after);
-}
-
 /* Numbers that differ from each other in every byte that a field has. */
 static uint64_t next(void)
 {
@@ -89,6 +46,12 @@ static melorwyth_record filled(void)
         r.device.holders[i] = (uint8_t)next();
         r.held[i] = (uint16_t)next();
     }
+    r.device.mechanism.armed = next() & 1;
+    for (int i = 0; i < MELORWYTH_KEY; i++)
+        r.device.mechanism.key[i] = (uint8_t)next();
+    for (int i = 0; i < 4; i++)
+        r.device.mechanism.address[i] = (uint8_t)next();
+    r.device.mechanism.port = (uint16_t)next();
     return r;
 }
 
@@ -120,6 +83,10 @@ static void refused_calls(void)
     expect("for nobody", k.connection, 0);
     expect("no length", k.length, 0);
     same("a refused take", &k.record, &r);
+    melorwyth_reset z = melorwyth_datagram(r, area, sizeof area, message, MELORWYTH_DATAGRAM);
+    expect("datagram refuses", z.number, MELORWYTH_BAD_RECORD);
+    expect("no reset", z.reset, 0);
+    same("a refused datagram", &z.record, &r);
 }
 
 /* Delivers to connection n, and compares the whole record with what is wanted. */
@@ -266,6 +233,24 @@ static void supervision(void)
     same("a keep-alive taken", &record, &wanted);
 }
 
+/* The reset mechanism: another value in every field, by the last connection that is closed. */
+static void mechanism(void)
+{
+    melorwyth_mechanism *m = &wanted.device.mechanism;
+    uint8_t parameters[64];
+    m->armed = true;
+    for (int i = 0; i < MELORWYTH_KEY; i++)
+        m->key[i] = (uint8_t)(0x11 * i + 3);
+    m->address[0] = 239;
+    m->address[1] = 1;
+    m->address[2] = 20;
+    m->address[3] = 103;
+    m->port = 0xABCD;
+    size_t length = arming(parameters, m->key, "239.1.20.103", m->port);
+    length = command(message, 9, DEVICE_MANAGER, SET_RESET_KEY, 2, parameters, length);
+    deliver("a reset key", 5, message, length, MELORWYTH_MESSAGE, 20);
+}
+
 /* What is wanted once connection n is closed. */
 static void close_wanted(uint8_t n)
 {
@@ -312,6 +297,23 @@ static void closures(void)
         close_wanted(n);
         same("a fault", &record, &wanted);
     }
+}
+
+/* Whoever set the key is closed; the key is there, and a reset leaves a fresh record. */
+static void reset(void)
+{
+    static const melorwyth_record zeros;
+    uint8_t datagram[MELORWYTH_DATAGRAM];
+    datagram_of(datagram, record.device.mechanism.key);
+    uint32_t reading = record.device.reading;
+    wanted = zeros;
+    wanted.device.reading = reading;
+    memset(wanted.device.mutes, 2, sizeof wanted.device.mutes);
+    melorwyth_reset z = melorwyth_datagram(record, area, sizeof area, datagram, sizeof datagram);
+    record = z.record;
+    expect("the datagram", z.number, MELORWYTH_DONE);
+    expect("a reset", z.reset, 1);
+    same("a reset", &record, &wanted);
 }
 
 /* The reader's answers, each field with a number of its own. */
@@ -390,8 +392,10 @@ int main(void)
     mutes();
     subscriptions();
     marks();
+    mechanism();
     supervision();
     closures();
+    reset();
     reading();
     refusals();
     return verdict("fields");

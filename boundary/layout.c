@@ -26,12 +26,18 @@ static void record(void)
     FIELD("Subscription", melorwyth_subscription, object);
     FIELD("Subscription", melorwyth_subscription, method);
     FIELD("Subscription", melorwyth_subscription, context);
+    STRUCT("Mechanism", melorwyth_mechanism);
+    FIELD("Mechanism", melorwyth_mechanism, armed);
+    FIELD("Mechanism", melorwyth_mechanism, key);
+    FIELD("Mechanism", melorwyth_mechanism, address);
+    FIELD("Mechanism", melorwyth_mechanism, port);
     STRUCT("Device", melorwyth_device);
     FIELD("Device", melorwyth_device, reading);
     FIELD("Device", melorwyth_device, connections);
     FIELD("Device", melorwyth_device, subscriptions);
     FIELD("Device", melorwyth_device, mutes);
     FIELD("Device", melorwyth_device, holders);
+    FIELD("Device", melorwyth_device, mechanism);
     STRUCT("Record", melorwyth_record);
     FIELD("Record", melorwyth_record, device);
     FIELD("Record", melorwyth_record, held);
@@ -65,6 +71,10 @@ static void answers(void)
     FIELD("Taken", melorwyth_taken, kind);
     FIELD("Taken", melorwyth_taken, connection);
     FIELD("Taken", melorwyth_taken, length);
+    STRUCT("Reset", melorwyth_reset);
+    FIELD("Reset", melorwyth_reset, record);
+    FIELD("Reset", melorwyth_reset, number);
+    FIELD("Reset", melorwyth_reset, reset);
 }
 
 static void messages(void)

@@ -44,6 +44,16 @@
  *     melorwyth_closed c = melorwyth_close(record, area, sizeof area, n);
  *     record = c.record;
  *
+ *   after deliveries and resets, where record.device.mechanism is not what it was
+ *     disarmed: close the UDP socket that there was
+ *     armed, with another port or address: close it, open one on mechanism.port,
+ *     and join the multicast group mechanism.address if that is not 0.0.0.0
+ *
+ *   a datagram came in on the UDP socket
+ *     melorwyth_reset r = melorwyth_datagram(record, area, sizeof area, bytes, length);
+ *     record = r.record;
+ *     if (r.reset) { close every socket, with no melorwyth_close: no connection is left }
+ *
  * WHO OWNS WHAT
  *
  * - The record is passed and handed back by value. Keep the one that the last
@@ -55,6 +65,31 @@
  *   any pointer after a call.
  * - An output or buffer keeps its bytes behind what was written.
  * - There is no lock inside. One record is one thread's at a time.
+ *
+ * RESET BY KEY
+ *
+ * A technician restarts a rack whose controllers have all hung. A controller
+ * arms the mechanism by method 3.14 of object 1, with a key, a UDP port and, if
+ * it likes, an IPv4 multicast group; the latest call counts, and it stays when
+ * its connection is closed. From then on a datagram of 24 bytes, the sentinel
+ * and the key, resets the device: a fresh record at the last reading, an area of
+ * zeros, the mechanism disarmed. Any other datagram changes nothing. Besides the
+ * calls above you owe it this:
+ *
+ * - A socket whenever mechanism.armed is set, on the port and in the group that
+ *   the record names now. Where it cannot be opened, say so: the library does not
+ *   know, and the controller was answered by status 0.
+ * - Datagrams whole. Most systems cut a datagram to the buffer that it is read
+ *   into, so read into more than MELORWYTH_DATAGRAM bytes: of 25 bytes the first
+ *   24 are no datagram of 24.
+ * - At a reset every TCP socket closed. Their connections are gone already, so
+ *   melorwyth_close would refuse by 3, or close another that has the number
+ *   since; and bytes read from such a socket before are dropped.
+ * - Secrecy, where there may be sabotage: whoever has the key can reset, so let
+ *   3.14 come over secure connections only (the draft, 5.4.3). The key stands in
+ *   the record: keep the record out of displays and logs that others read.
+ * - A switch, jumper or panel command on the device that disables the mechanism
+ *   (the draft, 5.4.3): while it is off, open no socket and hand over nothing.
  *
  * WHAT A REFUSAL IS
  *
@@ -107,6 +142,11 @@ extern "C" {
 #define MELORWYTH_LONGEST_REPLY 2628
 /* The buffer of the writer: at least so long, which is the longest message. */
 #define MELORWYTH_BUFFER 2049
+
+/* The reset key, and the datagram that resets: the sentinel, then the key. */
+#define MELORWYTH_KEY 16
+#define MELORWYTH_DATAGRAM 24
+#define MELORWYTH_SENTINEL {0xDE, 0xAF, 0xDA, 0xDA, 0xCA, 0xFE, 0xBA, 0xBE}
 
 /* ---- refusals: the field number of every answer ------------------------ */
 
@@ -189,12 +229,21 @@ typedef struct melorwyth_subscription {
     uint32_t context;    /* sent with each notification, most significant byte first */
 } melorwyth_subscription;
 
+/* Disarmed it is all 0. */
+typedef struct melorwyth_mechanism {
+    bool armed;                  /* whether you are to listen for datagrams */
+    uint8_t key[MELORWYTH_KEY];  /* secret: not for a display */
+    uint8_t address[4];          /* the multicast group to join, first part 224 to 239; all 0: none */
+    uint16_t port;               /* the UDP port to listen on, not 0 */
+} melorwyth_mechanism;
+
 typedef struct melorwyth_device {
     uint32_t reading;  /* the last reading of your millisecond counter */
     melorwyth_connection connections[MELORWYTH_CONNECTIONS];
     melorwyth_subscription subscriptions[MELORWYTH_SUBSCRIPTIONS];
     uint8_t mutes[MELORWYTH_MUTES];    /* object 4097 + i: 1 muted, 2 unmuted */
     uint8_t holders[MELORWYTH_MUTES];  /* who holds the lock of object 4097 + i: 0 nobody, else the connection plus 1 */
+    melorwyth_mechanism mechanism;     /* reset by key: the device's, so a closure leaves it */
 } melorwyth_device;
 
 typedef struct melorwyth_record {
@@ -252,6 +301,12 @@ typedef struct melorwyth_taken {
     size_t length;       /* the length of the message at the front of the output */
 } melorwyth_taken;
 
+typedef struct melorwyth_reset {
+    melorwyth_record record;
+    uint8_t number;  /* 0, 1 or 2 */
+    uint8_t reset;   /* 1: it was reset, close every socket; 0: nothing was changed */
+} melorwyth_reset;
+
 /* ---- the answers of reader and writer ------------------------------------- */
 
 typedef struct melorwyth_reading {
@@ -295,7 +350,8 @@ typedef struct melorwyth_written {
 
 /* ---- the endpoint ----------------------------------------------------------- */
 
-/* A record to start with: all connections closed, all channels unmuted, no lock, no subscription.
+/* A record to start with: all connections closed, all channels unmuted, no lock, no subscription,
+   the reset mechanism disarmed.
    The reading is that of a free-running 32-bit millisecond counter, now. */
 melorwyth_record melorwyth_fresh(uint32_t reading);
 
@@ -320,6 +376,12 @@ melorwyth_delivered melorwyth_deliver(melorwyth_record record, uint8_t *area, si
 /* Writes one message that is to be sent, and names its connection: the notification of the lowest
    waiting subscription, else a keep-alive for the lowest connection due, else nothing. */
 melorwyth_taken melorwyth_take(melorwyth_record record, uint8_t *output, size_t output_length);
+
+/* Gives the device a datagram that came in on the mechanism's port. It resets exactly when the mechanism is
+   armed and the datagram is the sentinel and the key, 24 bytes in all: the record is then a fresh one at the
+   last reading, the area zeros, the mechanism disarmed. */
+melorwyth_reset melorwyth_datagram(melorwyth_record record, uint8_t *area, size_t area_length,
+                                   const uint8_t *datagram, size_t datagram_length);
 
 /* ---- the reader: for whole messages, with no record --------------------------- */
 
@@ -347,8 +409,10 @@ melorwyth_written melorwyth_keep_alive(uint8_t *buffer, size_t buffer_length, ui
 
 /* ---- the archive's layout: a compiler that lays the record out in another way stops here -------- */
 
-typedef char melorwyth_record_has_1128_bytes[sizeof(melorwyth_record) == 1128 ? 1 : -1];
-typedef char melorwyth_delivered_has_1152_bytes[sizeof(melorwyth_delivered) == 1152 ? 1 : -1];
+typedef char melorwyth_mechanism_has_24_bytes[sizeof(melorwyth_mechanism) == 24 ? 1 : -1];
+typedef char melorwyth_record_has_1152_bytes[sizeof(melorwyth_record) == 1152 ? 1 : -1];
+typedef char melorwyth_delivered_has_1176_bytes[sizeof(melorwyth_delivered) == 1176 ? 1 : -1];
+typedef char melorwyth_reset_has_1160_bytes[sizeof(melorwyth_reset) == 1160 ? 1 : -1];
 
 #ifdef __cplusplus
 }
