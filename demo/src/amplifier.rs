@@ -135,6 +135,19 @@ impl Amplifier {
         })
     }
 
+    /// A reset, or a datagram that changed nothing.
+    pub fn datagram(&mut self, bytes: &[u8]) -> Result<Event, Refused> {
+        let answer = Ours.datagram(self.record, &mut self.area, bytes);
+        need("datagram", answer.number)?;
+        let length = bytes.len();
+        let event = match answer.reset {
+            0 => Event::Ignored { length },
+            _ => changes::reset(&self.record),
+        };
+        self.record = answer.record;
+        Ok(event)
+    }
+
     /// The next message to send, if there is one.
     pub fn take(&mut self) -> Result<Option<Sending>, Refused> {
         let taken = Ours.take(self.record, &mut self.output);

@@ -12,6 +12,7 @@ pub fn heard(n: u8, before: &Record, after: &Record) -> Vec<Event> {
     let entries = before.device.subscriptions.iter();
     let entries = entries.zip(&after.device.subscriptions);
     events.extend(entries.flat_map(|(was, is)| subscription(n, was, is)));
+    events.extend(arming(n, before, after));
     events
 }
 
@@ -47,6 +48,24 @@ pub fn closed(n: u8, why: Why, before: &Record) -> Event {
             .collect(),
     };
     Event::Closed { n, why, left }
+}
+
+/// What a reset ended: everything that there was before.
+pub fn reset(before: &Record) -> Event {
+    let numbers = 0..CONNECTIONS as u8;
+    let device = &before.device;
+    let mutes = |those: &dyn Fn(usize) -> bool| -> Vec<u8> {
+        let mutes = (0..MUTES).filter(|k| those(*k));
+        mutes.map(counted).collect()
+    };
+    Event::Reset {
+        closed: numbers.filter(|n| connection(before, *n).live).collect(),
+        left: Left {
+            undecided: before.held.iter().sum(),
+            freed: mutes(&|k| device.holders[k] != 0),
+        },
+        unmuted: mutes(&|k| device.mutes[k] == 1),
+    }
 }
 
 /// The notification that was taken: that of the entry which waits no longer.
@@ -115,6 +134,16 @@ fn set(n: u8, k: usize, before: &Record, after: &Record) -> Option<Event> {
     let value = after.device.mutes[k];
     let mute = counted(k);
     (before.device.mutes[k] != value).then_some(Event::Set { n, mute, value })
+}
+
+/// A key that is set as it was is not seen.
+fn arming(n: u8, before: &Record, after: &Record) -> Option<Event> {
+    let is = after.device.mechanism;
+    (before.device.mechanism != is).then_some(Event::Armed {
+        n,
+        group: is.address.into(),
+        port: is.port,
+    })
 }
 
 /// An entry may be left and taken again within one message.
@@ -232,6 +261,31 @@ mod tests {
         let line = "closed connection 2: nothing heard for 6000 ms (3 x 2 s); \
                     1 undecided byte dropped; mutes 2, 5 are free";
         assert_eq!(told(&lapsed(&before, &after, 0b100)), [line]);
+    }
+
+    #[test]
+    fn a_key_is_told_without_itself() {
+        let mut before = record();
+        before.device.mechanism.armed = true;
+        before.device.mechanism.key = [7; 16];
+        before.device.mechanism.port = 5_000;
+        let mut after = before;
+        after.device.mechanism.key[15] = 8;
+        let lines = ["connection 2 set the reset key: UDP port 5000"];
+        assert_eq!(told(&heard(2, &before, &after)), lines);
+        assert_eq!(told(&heard(2, &record(), &before)), lines);
+    }
+
+    #[test]
+    fn a_reset_ends_everything() {
+        let mut before = record();
+        before.device.connections[7].live = true;
+        before.device.holders = [0, 3, 0, 0, 8, 0, 0, 0];
+        before.device.mutes[4] = 1;
+        before.held = [0, 0, 5, 0, 0, 0, 0, 8];
+        let line = "reset by key: closed connections 2, 7; 13 undecided bytes dropped; \
+                    mutes 2, 5 are free; mute 5 is unmuted";
+        assert_eq!(told(&[reset(&before)]), [line]);
     }
 
     #[test]

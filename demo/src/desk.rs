@@ -3,6 +3,7 @@
 
 use crate::amplifier::Amplifier;
 use crate::clock::Clock;
+use crate::datagrams::Datagrams;
 use crate::events::{Event, Why};
 use crate::socket::{Heard, Socket, What};
 use compare::record::CONNECTIONS;
@@ -26,6 +27,7 @@ pub struct Desk<W> {
     clock: Clock,
     amplifier: Amplifier,
     sockets: [Option<Socket>; CONNECTIONS],
+    datagrams: Datagrams,
     /// Readers of closed sockets that have not ended yet.
     ending: Vec<JoinHandle<()>>,
     serial: u64,
@@ -43,6 +45,7 @@ impl<W: Write> Desk<W> {
             clock,
             amplifier: Amplifier::fresh(clock.reading())?,
             sockets: Default::default(),
+            datagrams: Datagrams::none(),
             ending: Vec::new(),
             serial: 0,
             inbox,
@@ -75,7 +78,7 @@ impl<W: Write> Desk<W> {
 
     /// Time comes before what was heard, so that silence ends where it was heard.
     fn turn(&mut self) -> io::Result<()> {
-        let arrived = self.admit()?;
+        let arrived = self.admit()? | self.attend()?;
         let wait = if arrived { Duration::ZERO } else { self.wait() };
         let heard = self.inbox.recv_timeout(wait);
         self.tick()?;
@@ -103,6 +106,27 @@ impl<W: Write> Desk<W> {
             // nobody is there, or left again before the door was opened
             Err(_) => Ok(false),
         }
+    }
+
+    /// Takes one datagram, if there is one.
+    fn attend(&mut self) -> io::Result<bool> {
+        let Some(bytes) = self.datagrams.next().map(<[u8]>::to_vec) else {
+            return Ok(false);
+        };
+        self.tick()?;
+        let event = self.amplifier.datagram(&bytes)?;
+        self.tell(&[event])?;
+        self.follow()?;
+        Ok(true)
+    }
+
+    /// Listens where the record says; what cannot be had is told, and the amplifier goes on.
+    fn follow(&mut self) -> io::Result<()> {
+        let mechanism = &self.amplifier.record().device.mechanism;
+        for line in self.datagrams.follow(mechanism) {
+            self.say(line)?;
+        }
+        Ok(())
     }
 
     /// Leaving the stream closes it: that is how a ninth is refused.
@@ -148,6 +172,8 @@ impl<W: Write> Desk<W> {
             let delivery = self.amplifier.deliver(n, rest)?;
             rest = &rest[delivery.taken..];
             self.tell(&delivery.events)?;
+            // before the reply, so that whoever is told that it is armed can send the datagram
+            self.follow()?;
             if !delivery.closed {
                 self.send(n, delivery.reply)?;
             }
@@ -193,16 +219,22 @@ impl<W: Write> Desk<W> {
         self.say("ended")
     }
 
-    /// A line for each event; a closure also hangs up.
+    /// A line for each event; a closure also hangs up, and a reset hangs up on all.
     fn tell(&mut self, events: &[Event]) -> io::Result<()> {
         for event in events {
-            if let Event::Closed { n, .. } = event {
-                let socket = self.sockets[usize::from(*n)].take();
-                self.ending.extend(socket.map(Socket::hang_up));
+            match event {
+                Event::Closed { n, .. } => self.hang_up(usize::from(*n)),
+                Event::Reset { .. } => (0..CONNECTIONS).for_each(|n| self.hang_up(n)),
+                _ => {}
             }
             self.say(event)?;
         }
         Ok(())
+    }
+
+    fn hang_up(&mut self, n: usize) {
+        let socket = self.sockets[n].take();
+        self.ending.extend(socket.map(Socket::hang_up));
     }
 
     /// The time is the amplifier's: the reading of its last tick. A line goes out in one piece, so that none is seen torn.
@@ -218,8 +250,9 @@ impl<W: Write> Desk<W> {
 mod tests {
     use super::*;
     use crate::events::Beat;
-    use crate::message::{self, Asking};
-    use std::net::Ipv4Addr;
+    use crate::message::{self, Arm, Asking};
+    use crate::restart::Restart;
+    use std::net::{Ipv4Addr, SocketAddrV4, UdpSocket};
     use std::thread;
     use std::time::Instant;
 
@@ -260,6 +293,34 @@ mod tests {
         assert!(desk.amplifier.record().device.connections[0].live);
         desk.hear(piece(2, &lock)).unwrap();
         assert_eq!(desk.amplifier.record().device.holders[4], 1);
+    }
+
+    /// A reset gives all numbers free while pieces of the connections before it still wait.
+    #[test]
+    fn late_pieces_from_before_a_reset_belong_to_nobody() {
+        let mut desk = desk();
+        let _first = arrive(&mut desk);
+        let lock = message::command(7, Asking::Lock, 5).unwrap();
+        let probe = UdpSocket::bind((Ipv4Addr::LOCALHOST, 0)).unwrap();
+        let port = probe.local_addr().unwrap().port();
+        drop(probe);
+        let arm = Arm {
+            key: [0x5A; 16],
+            port,
+            address: String::new(),
+        };
+        desk.hear(piece(1, &message::arming(8, &arm).unwrap()))
+            .unwrap();
+        let to = SocketAddrV4::new(Ipv4Addr::LOCALHOST, port);
+        Restart { key: arm.key, to }.send().unwrap();
+        while !desk.attend().unwrap() {}
+        assert!(desk.sockets.iter().all(Option::is_none));
+        let _second = arrive(&mut desk);
+        desk.hear(piece(1, &lock)).unwrap();
+        let what = What::Gone(Why::HungUp);
+        desk.hear(Heard { serial: 1, what }).unwrap();
+        assert_eq!(desk.amplifier.record().device.holders[4], 0);
+        assert!(desk.amplifier.record().device.connections[0].live);
     }
 
     /// A pause before a message is not counted as silence after it.

@@ -2,25 +2,82 @@
 
 use crate::words;
 use std::fmt;
+use std::net::Ipv4Addr;
 
 /// Mutes are counted from 1, connections from 0, as the scope paper numbers them.
 #[derive(Clone, Debug, PartialEq, Eq)]
 pub enum Event {
-    Opened { n: u8 },
+    Opened {
+        n: u8,
+    },
     Full,
-    Watched { n: u8, beat: Beat },
-    Unwatched { n: u8 },
-    Locked { n: u8, mute: u8 },
-    Unlocked { n: u8, mute: u8 },
-    Set { n: u8, mute: u8, value: u8 },
-    Subscribed { n: u8, mute: u8 },
-    Unsubscribed { n: u8, mute: u8 },
-    Answered { n: u8, status: u8 },
-    Notified { n: u8, mute: u8, value: u8 },
-    KeptAlive { n: u8, beat: Beat },
-    Silent { n: u8, since: u32 },
-    HeardAgain { n: u8 },
-    Closed { n: u8, why: Why, left: Left },
+    Watched {
+        n: u8,
+        beat: Beat,
+    },
+    Unwatched {
+        n: u8,
+    },
+    Locked {
+        n: u8,
+        mute: u8,
+    },
+    Unlocked {
+        n: u8,
+        mute: u8,
+    },
+    Set {
+        n: u8,
+        mute: u8,
+        value: u8,
+    },
+    Subscribed {
+        n: u8,
+        mute: u8,
+    },
+    Unsubscribed {
+        n: u8,
+        mute: u8,
+    },
+    Answered {
+        n: u8,
+        status: u8,
+    },
+    Notified {
+        n: u8,
+        mute: u8,
+        value: u8,
+    },
+    KeptAlive {
+        n: u8,
+        beat: Beat,
+    },
+    Silent {
+        n: u8,
+        since: u32,
+    },
+    HeardAgain {
+        n: u8,
+    },
+    Closed {
+        n: u8,
+        why: Why,
+        left: Left,
+    },
+    Armed {
+        n: u8,
+        group: Ipv4Addr,
+        port: u16,
+    },
+    Reset {
+        closed: Vec<u8>,
+        left: Left,
+        unmuted: Vec<u8>,
+    },
+    /// A datagram that did not reset.
+    Ignored {
+        length: usize,
+    },
 }
 
 /// A heartbeat: its form, and H in milliseconds.
@@ -47,7 +104,7 @@ pub enum Why {
     Ending,
 }
 
-/// What a closed connection had.
+/// What a closed connection had, or all that a reset closed.
 #[derive(Clone, Debug, Default, PartialEq, Eq)]
 pub struct Left {
     pub undecided: u16,
@@ -87,6 +144,23 @@ impl fmt::Display for Event {
             Event::Silent { n, since } => write!(f, "connection {n} silent since {since} ms"),
             Event::HeardAgain { n } => write!(f, "connection {n} heard again"),
             Event::Closed { n, why, left } => write!(f, "closed connection {n}: {why}{left}"),
+            // the key is a secret
+            Event::Armed { n, group, port } => {
+                write!(f, "connection {n} set the reset key: UDP port {port}")?;
+                f.write_str(&words::group(*group))
+            }
+            Event::Reset {
+                closed,
+                left,
+                unmuted,
+            } => {
+                let closed = words::connections(closed);
+                let unmuted = words::unmuted(unmuted);
+                write!(f, "reset by key: closed {closed}{left}{unmuted}")
+            }
+            Event::Ignored { length } => {
+                write!(f, "a datagram of {length} bytes changed nothing")
+            }
         }
     }
 }
@@ -151,6 +225,45 @@ mod tests {
         said(
             Event::Silent { n, since },
             "connection 2 silent since 4000 ms",
+        );
+    }
+
+    #[test]
+    fn a_reset_says_what_it_ended() {
+        let armed = |group: [u8; 4]| Event::Armed {
+            n: 2,
+            group: group.into(),
+            port: 5_000,
+        };
+        said(
+            armed([0; 4]),
+            "connection 2 set the reset key: UDP port 5000",
+        );
+        said(
+            armed([239, 1, 2, 3]),
+            "connection 2 set the reset key: UDP port 5000, group 239.1.2.3",
+        );
+        let reset = |closed: &[u8], undecided, freed: &[u8], unmuted: &[u8]| Event::Reset {
+            closed: closed.to_vec(),
+            left: Left {
+                undecided,
+                freed: freed.to_vec(),
+            },
+            unmuted: unmuted.to_vec(),
+        };
+        said(
+            reset(&[], 0, &[], &[]),
+            "reset by key: closed no connection",
+        );
+        said(
+            reset(&[0, 2], 6, &[1, 5], &[5]),
+            "reset by key: closed connections 0, 2; 6 undecided bytes dropped; \
+             mutes 1, 5 are free; mute 5 is unmuted",
+        );
+        let length = 23;
+        said(
+            Event::Ignored { length },
+            "a datagram of 23 bytes changed nothing",
         );
     }
 

@@ -7,11 +7,13 @@
 pub mod amplifier;
 pub mod changes;
 pub mod clock;
+pub mod datagrams;
 pub mod desk;
 pub mod events;
 #[allow(unsafe_code)]
 pub mod interrupt;
 pub mod message;
+pub mod restart;
 pub mod script;
 pub mod session;
 pub mod socket;

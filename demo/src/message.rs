@@ -2,6 +2,7 @@
 
 use crate::amplifier::Refused;
 use crate::events::Beat;
+use crate::restart::Key;
 use crate::words;
 use compare::engine::Engine;
 use compare::harness::traffic;
@@ -11,6 +12,7 @@ use compare::ours::Ours;
 const ROOM: usize = 2_049;
 /// The command type that wants a reply.
 const WANTING_REPLY: u8 = 1;
+const DEVICE_MANAGER: u32 = 1;
 const SUBSCRIPTION_MANAGER: u32 = 4;
 /// Event 1.1, a property changed.
 const CHANGED: u32 = 0x0001_0001;
@@ -30,6 +32,15 @@ pub enum Asking {
     Get,
     Subscribe,
     Unsubscribe,
+}
+
+/// What arms the reset mechanism.
+#[derive(Clone, Debug, PartialEq, Eq)]
+pub struct Arm {
+    pub key: Key,
+    pub port: u16,
+    /// Of a group; empty for none.
+    pub address: String,
 }
 
 /// What the amplifier says.
@@ -71,9 +82,22 @@ pub fn command(handle: u32, asking: Asking, mute: u8) -> Result<Vec<u8>, Refused
         }
         Asking::Unsubscribe => (SUBSCRIPTION_MANAGER, (3, 2), 2, subscription(object)),
     };
-    let entry = traffic::command(handle, target, method, count, &rest);
+    message(&traffic::command(handle, target, method, count, &rest))
+}
+
+/// Method 3.14: key and network address, as it was typed: the amplifier judges it.
+pub fn arming(handle: u32, arm: &Arm) -> Result<Vec<u8>, Refused> {
+    let length = arm.address.len() as u16;
+    let mut rest = arm.key.to_vec();
+    rest.extend(length.to_be_bytes());
+    rest.extend(arm.address.as_bytes());
+    rest.extend(arm.port.to_be_bytes());
+    message(&traffic::command(handle, DEVICE_MANAGER, (3, 14), 2, &rest))
+}
+
+fn message(entry: &[u8]) -> Result<Vec<u8>, Refused> {
     let mut bytes = vec![0; ROOM];
-    let written = Ours.start(&mut bytes, WANTING_REPLY, &entry);
+    let written = Ours.start(&mut bytes, WANTING_REPLY, entry);
     cut(bytes, "start", written.number, written.length)
 }
 
@@ -160,6 +184,21 @@ mod tests {
         assert_eq!(keep_alive(beat(1)).unwrap(), seconds);
         let milliseconds = [0x3B, 0, 1, 0, 0, 0, 0x0D, 4, 0, 1, 0, 0, 7, 0xD0];
         assert_eq!(keep_alive(beat(2)).unwrap(), milliseconds);
+    }
+
+    #[test]
+    fn a_key_goes_with_its_address() {
+        let arm = Arm {
+            key: *b"0123456789abcdef",
+            port: 0x1388,
+            address: "239.1.2.3".to_string(),
+        };
+        let bytes = arming(7, &arm).unwrap();
+        let entry = [
+            &[0, 0, 0, 46, 0, 0, 0, 7, 0, 0, 0, 1, 0, 3, 0, 14, 2],
+            &b"0123456789abcdef\0\x09239.1.2.3\x13\x88"[..],
+        ];
+        assert_eq!(bytes[10..], entry.concat());
     }
 
     #[test]

@@ -1,19 +1,40 @@
 //! The controller's small language: words, in arguments or lines.
 
 use crate::events::Beat;
-use crate::message::Asking;
+use crate::message::{Arm, Asking};
+use crate::restart::{self, Restart};
+use std::iter::Peekable;
 use std::time::Duration;
 
 /// The technician's question: a tablet locks mute 5, begins a message and dies.
 pub const QUESTION: &str = "as tablet beat 2 mute 5 lock 5 bytes 3B0001000000 dead wait 500 as technician await 5 unmute 5 quit";
 
+/// Any key does for a show.
+const SHOWN: &str = "000102030405060708090A0B0C0D0E0F";
+
+/// A rack whose controllers have all hung, with every lock held, is restarted from the front desk.
+pub fn restarting(port: u16) -> String {
+    format!(
+        "as installer arm {SHOWN} {port} leave \
+         as foyer lock 1 lock 2 lock 3 dead \
+         as stage beat 3600 mute 5 lock 4 lock 5 lock 6 dead \
+         as balcony lock 7 lock 8 bytes 3B0001000000 dead \
+         as technician lock 1 lock 5 lock 8 wait 1000 lock 5 \
+         as front-desk restart {SHOWN} {port} \
+         as technician await 1 await 2 await 3 await 4 await 5 await 6 await 7 await 8 get 5 quit"
+    )
+}
+
 pub const HELP: &str =
     "  lock N, unlock N, mute N, unmute N, get N, subscribe N, unsubscribe N   ask mute N, 1 to 8
   await N      ask for the lock every second until it is given
   beat S       set the heartbeat in seconds and keep alive; 'beat 200ms' in milliseconds; 0: no more
+  arm KEY PORT [ADDRESS]       set the reset key, 32 hex digits, a UDP port and perhaps a multicast group
+  restart KEY PORT [ADDRESS]   send the datagram that resets, by UDP to 127.0.0.1 or to the group
   bytes HEX    send these bytes as they are
   wait MS      go on keeping alive and listening
   dead         say nothing more, but keep the connection open
+  leave        hang up, but go on
   as NAME      go on as another controller, on a connection of its own
   question     the technician's question, with a tablet that dies
   quit         hang up";
@@ -24,15 +45,18 @@ pub enum Command {
     Await(u8),
     Beat(Beat),
     Bytes(Vec<u8>),
+    Arm(Arm),
+    Restart(Restart),
     Wait(Duration),
     Dead,
+    Leave,
     As(String),
     Quit,
 }
 
 /// The commands that the words make, or what is wrong with them.
 pub fn parse(text: &str) -> Result<Vec<Command>, String> {
-    let mut words = text.split_whitespace();
+    let mut words = text.split_whitespace().peekable();
     let mut commands = Vec::new();
     while let Some(word) = words.next() {
         match word {
@@ -43,10 +67,16 @@ pub fn parse(text: &str) -> Result<Vec<Command>, String> {
     Ok(commands)
 }
 
-fn command<'a>(word: &str, words: &mut impl Iterator<Item = &'a str>) -> Result<Command, String> {
+fn command<'a, W>(word: &str, words: &mut Peekable<W>) -> Result<Command, String>
+where
+    W: Iterator<Item = &'a str>,
+{
     match word {
         "dead" => return Ok(Command::Dead),
+        "leave" => return Ok(Command::Leave),
         "quit" => return Ok(Command::Quit),
+        "arm" => return arm(&keyed(words)).map_err(|wrong| format!("arm: {wrong}")),
+        "restart" => return restart(&keyed(words)).map_err(|wrong| format!("restart: {wrong}")),
         _ => {}
     }
     let asking = asking(word);
@@ -63,6 +93,32 @@ fn command<'a>(word: &str, words: &mut impl Iterator<Item = &'a str>) -> Result<
         _ => (!argument.is_empty()).then(|| Command::As(argument.to_string())),
     };
     parsed.ok_or_else(|| format!("'{word} {argument}' is no command"))
+}
+
+/// The key, the port, and an address if there is one: it begins with a digit, as no command does.
+fn keyed<'a, W>(words: &mut Peekable<W>) -> Vec<&'a str>
+where
+    W: Iterator<Item = &'a str>,
+{
+    let mut keyed: Vec<&str> = words.by_ref().take(2).collect();
+    keyed.extend(words.next_if(|word| word.starts_with(|first: char| first.is_ascii_digit())));
+    keyed
+}
+
+/// The address is not looked at: the amplifier judges it.
+fn arm(words: &[&str]) -> Result<Command, String> {
+    let &[key, port, ref address @ ..] = words else {
+        return Err("it takes a key, a port and perhaps an address".to_string());
+    };
+    Ok(Command::Arm(Arm {
+        key: restart::key(key)?,
+        port: restart::port(port)?,
+        address: address.concat(),
+    }))
+}
+
+fn restart(words: &[&str]) -> Result<Command, String> {
+    restart::parse(words).map(Command::Restart)
 }
 
 fn asking(word: &str) -> Option<Asking> {
@@ -132,6 +188,38 @@ mod tests {
         assert_eq!(parse(""), Ok(Vec::new()));
     }
 
+    /// An address is told from the next command by its first digit.
+    #[test]
+    fn a_key_has_a_port_and_perhaps_an_address() {
+        let arm = |port, address: &str| {
+            Command::Arm(Arm {
+                key: [0x5A; 16],
+                port,
+                address: address.to_string(),
+            })
+        };
+        let key = "5a".repeat(16);
+        let text = format!("arm {key} 0 arm {key} 5000 239.1.2.3 arm {key} 7 1.2 restart {key} 7");
+        let commands = parse(&text).unwrap();
+        let expected = [arm(0, ""), arm(5_000, "239.1.2.3"), arm(7, "1.2")];
+        assert_eq!(commands[..3], expected);
+        assert_eq!(restart(&[&key, "7"]), Ok(commands[3].clone()));
+        assert_eq!(
+            parse(&format!("arm {} 5000", &key[2..])).unwrap_err(),
+            "arm: a key is 32 hex digits, and this has 30"
+        );
+    }
+
+    #[test]
+    fn the_restart_is_a_script() {
+        let commands = parse(&restarting(5_000)).unwrap();
+        let restarts = |command: &Command| matches!(command, Command::Restart(_));
+        let place = commands.iter().position(restarts).unwrap();
+        let after = &commands[place..];
+        assert!((1..=8).all(|mute| after.contains(&Command::Await(mute))));
+        assert_eq!(after.last(), Some(&Command::Quit));
+    }
+
     #[test]
     fn the_question_is_a_script() {
         let commands = parse("question").unwrap();
@@ -158,6 +246,12 @@ mod tests {
             "wait",
             "wait 1.5",
             "as",
+            "arm",
+            "arm 00112233445566778899AABBCCDDEEFF",
+            "arm 00112233445566778899AABBCCDDEEFF 65536",
+            "arm 5000 00112233445566778899AABBCCDDEEFF",
+            "restart 00112233445566778899AABBCCDDEEFF 5000 10.0.0.1",
+            "restart 00112233445566778899AABBCCDDEEFF 0",
             "shout",
         ] {
             let refused = parse(text).unwrap_err();

@@ -1,8 +1,10 @@
 //! A controller at work: commands one after another, keeping alive between.
 
+use crate::amplifier::Refused;
 use crate::clock::Clock;
 use crate::events::Beat;
-use crate::message::{self, Asking, Said};
+use crate::message::{self, Arm, Asking, Said};
+use crate::restart::Restart;
 use crate::script::{self, Command};
 use crate::socket::{Heard, Socket, What};
 use crate::tablet::Tablet;
@@ -106,7 +108,10 @@ impl<W: Write> Session<W> {
                 self.say(format_args!("sends {} bytes as they are", bytes.len()))?;
                 self.send(&bytes)?;
             }
+            Command::Arm(arm) => self.arm(&arm)?,
+            Command::Restart(restart) => self.restart(&restart)?,
             Command::Wait(time) => drop(self.attend(time, |_| false)?),
+            Command::Leave => self.leave()?,
             Command::Dead => {
                 self.current()?.dead = true;
                 self.say("dead: says nothing more, its connection stays open")?;
@@ -120,36 +125,82 @@ impl<W: Write> Session<W> {
     /// Asks for the lock until it is given.
     fn ask_again(&mut self, mute: u8) -> io::Result<()> {
         let start = Instant::now();
+        let mut waited = None;
         while self.ask(Asking::Lock, mute)? != 0 {
             let asked = start.elapsed().as_millis() % AGAIN.as_millis();
             let rest = AGAIN.saturating_sub(Duration::from_millis(asked as u64));
             self.attend(rest, |_| false)?;
+            waited = Some(start);
         }
-        let waited = start.elapsed().as_millis();
-        self.say(format_args!("let in after {waited} ms"))
+        match waited.map(|start| start.elapsed().as_millis()) {
+            Some(waited) => self.say(format_args!("let in after {waited} ms")),
+            None => Ok(()),
+        }
     }
 
     /// Asks for one thing and waits for the reply; answers its status.
     fn ask(&mut self, asking: Asking, mute: u8) -> io::Result<u8> {
+        let name = format!("{asking:?} {mute}").to_lowercase();
+        let asked = |handle| message::command(handle, asking, mute);
+        let (status, parameters) = self.exchange(&name, asked)?;
+        let value = match (asking, parameters.as_slice()) {
+            (Asking::Get, [value]) => format!(", {}", words::value(*value)),
+            _ => String::new(),
+        };
+        let status_told = words::status(status);
+        self.say(format_args!("{name}: {status_told}{value}"))?;
+        Ok(status)
+    }
+
+    /// Sets the reset key, which is not said.
+    fn arm(&mut self, arm: &Arm) -> io::Result<()> {
+        let name = format!("arm {} {}", arm.port, arm.address);
+        let name = name.trim_end();
+        let (status, _) = self.exchange(name, |handle| message::arming(handle, arm))?;
+        let status = words::status(status);
+        self.say(format_args!("{name}: {status}"))
+    }
+
+    /// Sends a command and waits for its reply: status and parameters.
+    fn exchange(
+        &mut self,
+        name: &str,
+        command: impl Fn(u32) -> Result<Vec<u8>, Refused>,
+    ) -> io::Result<(u8, Vec<u8>)> {
         let tablet = self.current()?;
         tablet.handle += 1;
         let asked = tablet.handle;
-        self.send(&message::command(asked, asking, mute)?)?;
+        self.send(&command(asked)?)?;
         let reply = |said: &Said| matches!(said, Said::Reply { handle, .. } if *handle == asked);
-        let name = format!("{asking:?} {mute}").to_lowercase();
         match self.attend(PATIENCE, reply)? {
             Came::Said(Said::Reply {
                 status, parameters, ..
-            }) => {
-                let value = match (asking, parameters.as_slice()) {
-                    (Asking::Get, [value]) => format!(", {}", words::value(*value)),
-                    _ => String::new(),
-                };
-                let status_told = words::status(status);
-                self.say(format_args!("{name}: {status_told}{value}"))?;
-                Ok(status)
-            }
-            came => Err(self.missing(&name, &came)),
+            }) => Ok((status, parameters)),
+            came => Err(self.missing(name, &came)),
+        }
+    }
+
+    /// Sends the datagram; that it worked is seen by the connections which the amplifier closes.
+    fn restart(&mut self, restart: &Restart) -> io::Result<()> {
+        self.say(restart)?;
+        if let Err(error) = restart.send() {
+            return self.say(error);
+        }
+        let until = Instant::now() + PATIENCE;
+        while !self.tablets.is_empty() && Instant::now() < until {
+            self.attend(TURN, |_| false)?;
+        }
+        match self.tablets.is_empty() {
+            true => Ok(()),
+            false => self.say("nothing was closed: that was no reset"),
+        }
+    }
+
+    fn leave(&mut self) -> io::Result<()> {
+        let named = |tablet: &Tablet| tablet.name == self.name;
+        match self.tablets.iter().position(named) {
+            Some(k) => self.part(k, "hangs up").map(drop),
+            None => Ok(()),
         }
     }
 

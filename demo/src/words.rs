@@ -1,5 +1,7 @@
 //! Plain words for the numbers of the scope paper.
 
+use std::net::Ipv4Addr;
+
 /// The object number of the first mute, less one.
 const BEFORE_MUTES: u32 = 4_096;
 
@@ -23,7 +25,7 @@ pub fn status(number: u8) -> String {
         4 => "wrong count or length",
         5 => "no such object",
         6 => "emitter not a mute, or event not 1.1",
-        7 => "mode not 1, or mute not 1 or 2",
+        7 => "mode not 1, mute not 1 or 2, or no address or port for a reset",
         8 => "not for a manager",
         9 => "not held, or held already",
         10 => "no free entry",
@@ -85,11 +87,41 @@ pub fn beat(form: u8, milliseconds: u64) -> String {
 
 /// Which mutes are free now; nothing for none.
 pub fn free(mutes: &[u8]) -> String {
-    let names: Vec<String> = mutes.iter().map(u8::to_string).collect();
-    match names.as_slice() {
+    mutes_are(mutes, "free")
+}
+
+/// Which mutes are unmuted now; nothing for none.
+pub fn unmuted(mutes: &[u8]) -> String {
+    mutes_are(mutes, "unmuted")
+}
+
+fn mutes_are(mutes: &[u8], what: &str) -> String {
+    match mutes {
         [] => String::new(),
-        [one] => format!("; mute {one} is free"),
-        _ => format!("; mutes {} are free", names.join(", ")),
+        [one] => format!("; mute {one} is {what}"),
+        _ => format!("; mutes {} are {what}", listed(mutes)),
+    }
+}
+
+pub fn connections(numbers: &[u8]) -> String {
+    match numbers {
+        [] => "no connection".to_string(),
+        [one] => format!("connection {one}"),
+        _ => format!("connections {}", listed(numbers)),
+    }
+}
+
+fn listed(numbers: &[u8]) -> String {
+    let names: Vec<String> = numbers.iter().map(u8::to_string).collect();
+    names.join(", ")
+}
+
+/// The group of an address; nothing for zeros, which are none.
+pub fn group(address: Ipv4Addr) -> String {
+    if address.is_unspecified() {
+        String::new()
+    } else {
+        format!(", group {address}")
     }
 }
 
@@ -158,6 +190,9 @@ mod tests {
         assert_eq!(free(&[]), "");
         assert_eq!(free(&[5]), "; mute 5 is free");
         assert_eq!(free(&[2, 5, 8]), "; mutes 2, 5, 8 are free");
+        assert_eq!(unmuted(&[]), "");
+        assert_eq!(unmuted(&[5]), "; mute 5 is unmuted");
+        assert_eq!(connections(&[3]), "connection 3");
         assert_eq!(undecided(0), "");
         assert_eq!(undecided(1), "; 1 undecided byte dropped");
         assert_eq!(undecided(13), "; 13 undecided bytes dropped");

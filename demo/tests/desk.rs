@@ -1,6 +1,7 @@
 //! The amplifier over real sockets.
 
 mod hall;
+mod reset;
 
 use compare::harness::traffic;
 use demo::script;
@@ -343,17 +344,22 @@ fn the_controller_plays_the_question() {
     );
 }
 
+/// A program of this package, emulated where the tests are.
+fn program(path: &str) -> Command {
+    match std::env::var("CARGO_TARGET_X86_64_UNKNOWN_LINUX_GNU_RUNNER") {
+        Ok(emulator) if cfg!(target_arch = "x86_64") && !emulator.is_empty() => {
+            let mut command = Command::new(emulator);
+            command.arg(path);
+            command
+        }
+        _ => Command::new(path),
+    }
+}
+
 /// The program itself, interrupted as by Ctrl-C.
 #[test]
 fn an_interrupt_ends_the_program() {
-    let mut command = match std::env::var("CARGO_TARGET_X86_64_UNKNOWN_LINUX_GNU_RUNNER") {
-        Ok(emulator) if cfg!(target_arch = "x86_64") && !emulator.is_empty() => {
-            let mut command = Command::new(emulator);
-            command.arg(env!("CARGO_BIN_EXE_amplifier"));
-            command
-        }
-        _ => Command::new(env!("CARGO_BIN_EXE_amplifier")),
-    };
+    let mut command = program(env!("CARGO_BIN_EXE_amplifier"));
     let mut amplifier = command.arg("0").stdout(Stdio::piped()).spawn().unwrap();
     let mut lines = BufReader::new(amplifier.stdout.take().unwrap()).lines();
     let listening = lines.next().unwrap().unwrap();

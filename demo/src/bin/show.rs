@@ -1,4 +1,5 @@
-//! `show`: the technician's question in one terminal, the amplifier's lines and the controllers' side by side.
+//! `show [restart]`: the technician's question, or a rack restarted by key, in one terminal: the amplifier's lines
+//! and the controllers' side by side.
 
 use demo::clock::Clock;
 use demo::desk::Desk;
@@ -6,7 +7,7 @@ use demo::interrupt;
 use demo::script;
 use demo::session::Session;
 use std::io::{self, Write};
-use std::net::{Ipv4Addr, TcpListener};
+use std::net::{Ipv4Addr, TcpListener, UdpSocket};
 use std::process::ExitCode;
 use std::sync::atomic::Ordering;
 use std::thread;
@@ -42,7 +43,17 @@ impl Write for Lines {
 }
 
 fn main() -> ExitCode {
-    match run() {
+    let arguments: Vec<String> = std::env::args().skip(1).collect();
+    let words: Vec<&str> = arguments.iter().map(String::as_str).collect();
+    let played = match words.as_slice() {
+        [] => Ok("question".to_string()),
+        ["restart"] => free_port().map(script::restarting),
+        _ => {
+            eprintln!("usage: show [restart]");
+            return ExitCode::from(2);
+        }
+    };
+    match played.and_then(|text| run(&text)) {
         Ok(()) => ExitCode::SUCCESS,
         Err(error) => {
             eprintln!("show: {error}");
@@ -51,12 +62,18 @@ fn main() -> ExitCode {
     }
 }
 
-fn run() -> io::Result<()> {
+/// A UDP port that is free now.
+fn free_port() -> io::Result<u16> {
+    let socket = UdpSocket::bind((Ipv4Addr::LOCALHOST, 0))?;
+    Ok(socket.local_addr()?.port())
+}
+
+fn run(text: &str) -> io::Result<()> {
     interrupt::watch();
     let listener = TcpListener::bind((Ipv4Addr::LOCALHOST, 0))?;
     let address = listener.local_addr()?;
     let desk = Desk::new(listener, Clock::starting_at(0), lines_of("amplifier"))?;
-    let commands = script::parse("question").map_err(io::Error::other)?;
+    let commands = script::parse(text).map_err(io::Error::other)?;
     thread::scope(|both| {
         let amplifier = both.spawn(|| desk.run(&interrupt::ENDING));
         let asked = Session::new(address, lines_of("hall")).obey(commands);

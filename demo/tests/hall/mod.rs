@@ -3,6 +3,7 @@
 use compare::harness::traffic;
 use demo::clock::Clock;
 use demo::desk::Desk;
+use demo::restart::Key;
 use std::io::{self, ErrorKind, Read, Write};
 use std::net::{Ipv4Addr, SocketAddr, TcpListener, TcpStream};
 use std::sync::atomic::{AtomicBool, Ordering};
@@ -193,6 +194,15 @@ pub fn set(handle: u32, mute: u32, value: u8) -> Vec<u8> {
 
 pub fn get(handle: u32, mute: u32) -> Vec<u8> {
     traffic::command(handle, object(mute), (4, 1), 0, &[])
+}
+
+/// Method 3.14; an empty text is no group.
+pub fn arm(handle: u32, key: Key, text: &str, port: u16) -> Vec<u8> {
+    let mut rest = key.to_vec();
+    rest.extend((text.len() as u16).to_be_bytes());
+    rest.extend(text.as_bytes());
+    rest.extend(port.to_be_bytes());
+    traffic::command(handle, 1, (3, 14), 2, &rest)
 }
 
 pub fn subscribe(handle: u32, mute: u32, context: u32) -> Vec<u8> {
