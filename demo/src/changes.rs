@@ -1,6 +1,6 @@
 //! What a call changed, told by the record before it and after it.
 
-use crate::events::{Beat, Event, Left, Why};
+use crate::events::{Beat, Ended, Event, Left, Place, Why};
 use crate::words;
 use compare::record::{CONNECTIONS, Connection, MUTES, Record, Subscription};
 
@@ -58,14 +58,14 @@ pub fn reset(before: &Record) -> Event {
         let mutes = (0..MUTES).filter(|k| those(*k));
         mutes.map(counted).collect()
     };
-    Event::Reset {
+    Event::Reset(Ended {
         closed: numbers.filter(|n| connection(before, *n).live).collect(),
         left: Left {
             undecided: before.held.iter().sum(),
             freed: mutes(&|k| device.holders[k] != 0),
         },
         unmuted: mutes(&|k| device.mutes[k] == 1),
-    }
+    })
 }
 
 /// The notification that was taken: that of the entry which waits no longer.
@@ -139,11 +139,11 @@ fn set(n: u8, k: usize, before: &Record, after: &Record) -> Option<Event> {
 /// A key that is set as it was is not seen.
 fn arming(n: u8, before: &Record, after: &Record) -> Option<Event> {
     let is = after.device.mechanism;
-    (before.device.mechanism != is).then_some(Event::Armed {
-        n,
-        group: is.address.into(),
+    let place = Place {
         port: is.port,
-    })
+        group: is.address.into(),
+    };
+    (before.device.mechanism != is).then_some(Event::Armed { n, place })
 }
 
 /// An entry may be left and taken again within one message.

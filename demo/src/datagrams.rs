@@ -55,7 +55,7 @@ impl Datagrams {
     }
 
     /// The next datagram, if one has come; the sockets take turns.
-    pub fn next(&mut self) -> Option<&[u8]> {
+    pub fn received(&mut self) -> Option<&[u8]> {
         let count = self.sockets.len();
         self.sockets.rotate_left(count.min(1));
         let mut sockets = self.sockets.iter();
@@ -122,7 +122,7 @@ mod tests {
         let lines = datagrams.follow(&armed(1, [0; 4], port));
         assert!(lines[0].starts_with("cannot listen for datagrams on 127.0.0.1:"));
         assert!(datagrams.follow(&armed(1, [0; 4], port)).is_empty());
-        assert!(datagrams.next().is_none());
+        assert!(datagrams.received().is_none());
         drop(taken);
         let lines = datagrams.follow(&armed(2, [0; 4], port));
         assert_eq!(

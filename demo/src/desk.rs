@@ -110,7 +110,7 @@ impl<W: Write> Desk<W> {
 
     /// Takes one datagram, if there is one.
     fn attend(&mut self) -> io::Result<bool> {
-        let Some(bytes) = self.datagrams.next().map(<[u8]>::to_vec) else {
+        let Some(bytes) = self.datagrams.received().map(<[u8]>::to_vec) else {
             return Ok(false);
         };
         self.tick()?;
@@ -224,7 +224,7 @@ impl<W: Write> Desk<W> {
         for event in events {
             match event {
                 Event::Closed { n, .. } => self.hang_up(usize::from(*n)),
-                Event::Reset { .. } => (0..CONNECTIONS).for_each(|n| self.hang_up(n)),
+                Event::Reset(_) => (0..CONNECTIONS).for_each(|n| self.hang_up(n)),
                 _ => {}
             }
             self.say(event)?;

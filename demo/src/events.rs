@@ -66,14 +66,9 @@ pub enum Event {
     },
     Armed {
         n: u8,
-        group: Ipv4Addr,
-        port: u16,
+        place: Place,
     },
-    Reset {
-        closed: Vec<u8>,
-        left: Left,
-        unmuted: Vec<u8>,
-    },
+    Reset(Ended),
     /// A datagram that did not reset.
     Ignored {
         length: usize,
@@ -111,6 +106,23 @@ pub struct Left {
     pub freed: Vec<u8>,
 }
 
+/// Where the armed mechanism wants datagrams; its key is a secret.
+#[derive(Clone, Copy, Debug, PartialEq, Eq)]
+pub struct Place {
+    pub port: u16,
+    /// Zeros are no group.
+    pub group: Ipv4Addr,
+}
+
+/// What a reset ended.
+#[derive(Clone, Debug, Default, PartialEq, Eq)]
+pub struct Ended {
+    pub closed: Vec<u8>,
+    pub left: Left,
+    /// The mutes that were muted before.
+    pub unmuted: Vec<u8>,
+}
+
 impl fmt::Display for Event {
     fn fmt(&self, f: &mut fmt::Formatter) -> fmt::Result {
         match self {
@@ -144,20 +156,8 @@ impl fmt::Display for Event {
             Event::Silent { n, since } => write!(f, "connection {n} silent since {since} ms"),
             Event::HeardAgain { n } => write!(f, "connection {n} heard again"),
             Event::Closed { n, why, left } => write!(f, "closed connection {n}: {why}{left}"),
-            // the key is a secret
-            Event::Armed { n, group, port } => {
-                write!(f, "connection {n} set the reset key: UDP port {port}")?;
-                f.write_str(&words::group(*group))
-            }
-            Event::Reset {
-                closed,
-                left,
-                unmuted,
-            } => {
-                let closed = words::connections(closed);
-                let unmuted = words::unmuted(unmuted);
-                write!(f, "reset by key: closed {closed}{left}{unmuted}")
-            }
+            Event::Armed { n, place } => write!(f, "connection {n} set the reset key: {place}"),
+            Event::Reset(ended) => write!(f, "reset by key: {ended}"),
             Event::Ignored { length } => {
                 write!(f, "a datagram of {length} bytes changed nothing")
             }
@@ -183,6 +183,21 @@ impl fmt::Display for Why {
             Why::Stalled => write!(f, "it does not take what it is sent"),
             Why::Ending => write!(f, "the amplifier ends"),
         }
+    }
+}
+
+impl fmt::Display for Place {
+    fn fmt(&self, f: &mut fmt::Formatter) -> fmt::Result {
+        write!(f, "UDP port {}", self.port)?;
+        f.write_str(&words::group(self.group))
+    }
+}
+
+impl fmt::Display for Ended {
+    fn fmt(&self, f: &mut fmt::Formatter) -> fmt::Result {
+        let closed = words::connections(&self.closed);
+        let unmuted = words::unmuted(&self.unmuted);
+        write!(f, "closed {closed}{}{unmuted}", self.left)
     }
 }
 
@@ -232,8 +247,10 @@ mod tests {
     fn a_reset_says_what_it_ended() {
         let armed = |group: [u8; 4]| Event::Armed {
             n: 2,
-            group: group.into(),
-            port: 5_000,
+            place: Place {
+                port: 5_000,
+                group: group.into(),
+            },
         };
         said(
             armed([0; 4]),
@@ -243,13 +260,13 @@ mod tests {
             armed([239, 1, 2, 3]),
             "connection 2 set the reset key: UDP port 5000, group 239.1.2.3",
         );
-        let reset = |closed: &[u8], undecided, freed: &[u8], unmuted: &[u8]| Event::Reset {
-            closed: closed.to_vec(),
-            left: Left {
-                undecided,
-                freed: freed.to_vec(),
-            },
-            unmuted: unmuted.to_vec(),
+        let reset = |closed: &[u8], undecided, freed: &[u8], unmuted: &[u8]| {
+            let freed = freed.to_vec();
+            Event::Reset(Ended {
+                closed: closed.to_vec(),
+                left: Left { undecided, freed },
+                unmuted: unmuted.to_vec(),
+            })
         };
         said(
             reset(&[], 0, &[], &[]),

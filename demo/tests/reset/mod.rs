@@ -263,6 +263,9 @@ fn a_babbling_controller_does_not_put_it_off() {
     let many: Vec<Vec<u8>> = (0..119).map(identify).collect();
     // of type 0, so that it is run without replies
     let many = traffic::message(0, &many);
+    // a write that waits for room may learn late that the other end is closed
+    let soon = Some(Duration::from_secs(1));
+    babbling.stream.set_write_timeout(soon).unwrap();
     let talking = thread::spawn(move || while babbling.stream.write_all(&many).is_ok() {});
     thread::sleep(Duration::from_millis(100));
     restart(KEY, port).send().unwrap();
