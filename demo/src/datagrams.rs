@@ -10,6 +10,8 @@ const LONGEST: usize = 65_536;
 /// What is open is what the mechanism that was followed last wants, as far as it can be had.
 #[derive(Debug)]
 pub struct Datagrams {
+    /// The device's own switch: off, nothing is opened.
+    on: bool,
     followed: Mechanism,
     sockets: Vec<UdpSocket>,
     buffer: Vec<u8>,
@@ -17,8 +19,9 @@ pub struct Datagrams {
 
 impl Datagrams {
     /// As at the start: disarmed, and nothing open.
-    pub fn none() -> Datagrams {
+    pub fn switched(on: bool) -> Datagrams {
         Datagrams {
+            on,
             followed: Mechanism::default(),
             sockets: Vec::new(),
             buffer: vec![0; LONGEST],
@@ -32,6 +35,9 @@ impl Datagrams {
         }
         let (had, wanted) = (addresses(&self.followed), addresses(mechanism));
         self.followed = *mechanism;
+        if !self.on && mechanism.armed {
+            return vec!["the reset switch is off: not listening for datagrams".to_string()];
+        }
         // what could not be had is tried again when another key is set
         if had == wanted && self.sockets.len() == wanted.len() {
             return Vec::new();
@@ -118,7 +124,7 @@ mod tests {
     fn a_socket_that_cannot_be_had_is_tried_again() {
         let taken = UdpSocket::bind((Ipv4Addr::LOCALHOST, 0)).unwrap();
         let port = taken.local_addr().unwrap().port();
-        let mut datagrams = Datagrams::none();
+        let mut datagrams = Datagrams::switched(true);
         let lines = datagrams.follow(&armed(1, [0; 4], port));
         assert!(lines[0].starts_with("cannot listen for datagrams on 127.0.0.1:"));
         assert!(datagrams.follow(&armed(1, [0; 4], port)).is_empty());

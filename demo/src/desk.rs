@@ -45,13 +45,19 @@ impl<W: Write> Desk<W> {
             clock,
             amplifier: Amplifier::fresh(clock.reading())?,
             sockets: Default::default(),
-            datagrams: Datagrams::none(),
+            datagrams: Datagrams::switched(true),
             ending: Vec::new(),
             serial: 0,
             inbox,
             outside,
             lines,
         })
+    }
+
+    /// The same with its reset switch off: it listens for no datagram, whatever key is set.
+    pub fn without_reset(mut self) -> Desk<W> {
+        self.datagrams = Datagrams::switched(false);
+        self
     }
 
     /// Runs until the stop is set, and then ends everything that it started.

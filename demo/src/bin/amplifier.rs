@@ -1,4 +1,4 @@
-//! `amplifier [PORT]`: an amplifier on the loopback address until it is interrupted.
+//! `amplifier [PORT] [no-reset]`: an amplifier on the loopback address until it is interrupted.
 
 use demo::PORT;
 use demo::clock::Clock;
@@ -10,16 +10,19 @@ use std::process::ExitCode;
 
 fn main() -> ExitCode {
     let arguments: Vec<String> = std::env::args().skip(1).collect();
-    let port = match arguments.as_slice() {
-        [] => Some(PORT),
-        [port] => port.parse().ok(),
-        _ => None,
+    let words: Vec<&str> = arguments.iter().map(String::as_str).collect();
+    let (port, reset) = match words.as_slice() {
+        [] => (Some(PORT), true),
+        ["no-reset"] => (Some(PORT), false),
+        [port] => (port.parse().ok(), true),
+        [port, "no-reset"] => (port.parse().ok(), false),
+        _ => (None, true),
     };
     let Some(port) = port else {
-        eprintln!("usage: amplifier [PORT]   (0: a free one; without: {PORT})");
+        eprintln!("usage: amplifier [PORT] [no-reset]   (0: a free one; without: {PORT})");
         return ExitCode::from(2);
     };
-    match run(port) {
+    match run(port, reset) {
         Ok(()) => ExitCode::SUCCESS,
         Err(error) => {
             eprintln!("amplifier: {error}");
@@ -28,9 +31,10 @@ fn main() -> ExitCode {
     }
 }
 
-fn run(port: u16) -> io::Result<()> {
+fn run(port: u16, reset: bool) -> io::Result<()> {
     interrupt::watch();
     let listener = TcpListener::bind((Ipv4Addr::LOCALHOST, port))?;
     let desk = Desk::new(listener, Clock::starting_at(0), io::stdout())?;
+    let desk = if reset { desk } else { desk.without_reset() };
     desk.run(&interrupt::ENDING)
 }

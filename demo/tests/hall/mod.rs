@@ -74,11 +74,21 @@ impl Hall {
 
     /// The amplifier's clock starts at this reading.
     pub fn open_at(reading: u32) -> Hall {
+        Hall::open_as(reading, |desk| desk)
+    }
+
+    /// The amplifier's reset switch is off.
+    pub fn open_without_reset() -> Hall {
+        Hall::open_as(0, Desk::without_reset)
+    }
+
+    fn open_as(reading: u32, made: fn(Desk<Log>) -> Desk<Log>) -> Hall {
         let listener = TcpListener::bind((Ipv4Addr::LOCALHOST, 0)).unwrap();
         let address = listener.local_addr().unwrap();
         let log = Log::default();
         let stop = Arc::new(AtomicBool::new(false));
         let desk = Desk::new(listener, Clock::starting_at(reading), log.clone()).unwrap();
+        let desk = made(desk);
         let stopped = Arc::clone(&stop);
         let thread = thread::spawn(move || desk.run(&stopped));
         Hall {

@@ -251,6 +251,20 @@ fn a_port_that_is_taken_is_told() {
     hall.end();
 }
 
+/// The switch on the device: a key is taken, and no datagram is heard.
+#[test]
+fn the_switch_keeps_datagrams_out() {
+    let hall = Hall::open_without_reset();
+    let port = free_port();
+    let mut tablet = hall.connect(0);
+    tablet.ask(&arm(1, KEY, "", port), 0);
+    hall.log
+        .line("the reset switch is off: not listening for datagrams");
+    assert!(restart(KEY, port).send().is_err());
+    tablet.ask(&lock(2, 5), 0);
+    assert!(!hall.end().contains("reset by key"));
+}
+
 /// One that hung babbles without end; the datagram is heard all the same.
 #[test]
 fn a_babbling_controller_does_not_put_it_off() {
