@@ -186,6 +186,21 @@ mod tests {
         assert_eq!(keep_alive(beat(2)).unwrap(), milliseconds);
     }
 
+    /// The service page's example, which has no address.
+    #[test]
+    fn a_key_goes_with_its_port() {
+        let arm = Arm {
+            key: std::array::from_fn(|k| k as u8),
+            port: 5_000,
+            address: String::new(),
+        };
+        let expected = [
+            0x3B, 0, 1, 0, 0, 0, 0x2E, 1, 0, 1, 0, 0, 0, 0x25, 0, 0, 0, 7, 0, 0, 0, 1, 0, 3, 0,
+            0x0E, 2, 0, 1, 2, 3, 4, 5, 6, 7, 8, 9, 10, 11, 12, 13, 14, 15, 0, 0, 0x13, 0x88,
+        ];
+        assert_eq!(arming(7, &arm).unwrap(), expected);
+    }
+
     #[test]
     fn a_key_goes_with_its_address() {
         let arm = Arm {
