@@ -197,8 +197,10 @@ static void bad_area(void)
 /* Two hang with all locks held and half a message each; a closure leaves the key, the reset leaves nothing. */
 static void restart(void)
 {
+    static const uint8_t muted = 1;
     uint8_t bytes[MELORWYTH_DATAGRAM];
     datagram_of(bytes, key);
+    expect("a set", ask(0, FIRST_MUTE, SET, 1, &muted, 1), 0);
     for (uint8_t i = 0; i < MELORWYTH_MUTES; i++)
         expect("a lock", lock(i % 2, i), 0);
     for (uint8_t n = 0; n < 2; n++) {
