@@ -11,11 +11,7 @@ use lib.Seq.{take-all}
 use lib.Dec.{eqb}
 use borrow.Author.Tests.{eqb-true, eq-eqb, not-true, not-false}
 use Rattle.laws.proofs.Conds.{cond-left}
-use borrow.Rule.Slice.PartMut.{putMid}
-use Rattle.laws.proofs.Stores.{sets-all, sets-mid}
 use Rattle.octets.specs.Zeros.{zeros}
-use Rattle.octets.proofs.Scans.{length-zeros}
-use Rattle.mechanism.specs.Datagram.{resets}
 use Rattle.area.specs.Area.{areaBytes, partsSound, areaSound, partCleared, closedCleared, heldKept}
 use Rattle.connection.specs.State.{closed, liveAt}
 use Rattle.connection.specs.declared.Connection.{Connection}
@@ -25,10 +21,9 @@ use Rattle.device.specs.declared.Opened.{Opened}
 use Rattle.device.specs.declared.Opening.the-variants as opening
 use Rattle.device.specs.declared.Ticked.{Ticked}
 use Rattle.device.specs.declared.Ticking.the-variants as ticking
-use Rattle.endpoint.specs.State.{stateOf, freshState, livesIn, recordObeys, closedState}
+use Rattle.endpoint.specs.State.{stateOf, livesIn, recordObeys, closedState}
 use Rattle.endpoint.specs.Numbers.{badRecord, badArea, noConnection, tableFull, clockBack, overrun, Outcome, outcome, refused}
 use Rattle.endpoint.specs.Calls.{clearAnswer, clearedArea, openedBy, openCall, closeCall, tickedBy, tickCall}
-use Rattle.endpoint.specs.Datagram.{restarted, datagramCall}
 use Rattle.endpoint.specs.declared.Record.{Record}
 
 fill-suc : {A B : Type 0} (f : A → B) (d : A) (i : ℕ) (l : List A) (o : List B) → i < length l → length l ≡ length o
@@ -82,13 +77,6 @@ pub clear-done : (area next : List ℕ) → length area ≡ areaBytes → next �
 unfolding clearAnswer clearedArea
 clear-done area next h q = simp (eq-eqb (length area) areaBytes h) (refl, q ∙ ap zeros h)
 
--- an area of which every byte was lent to be cleared
-pub all-cleared : (area p : List ℕ) → length area ≡ areaBytes → p ≡ zeros (length (take areaBytes area)) → putMid 0 areaBytes area p ≡ zeros (length area)
-all-cleared area p e q =
-    let z : p ≡ zeros areaBytes = q ∙ ap zeros (ap length (take-all areaBytes area (omega arith)) ∙ e) in
-    let l : length p ≡ areaBytes = ap length z ∙ length-zeros areaBytes in
-    sets-mid p area 0 areaBytes l (omega arith) ∙ sets-all p area (l ∙ sym e) ∙ z ∙ ap zeros (sym e)
-
 -- k is the device ticked
 module _ (r : Record) (area : List ℕ) (reading : ℕ) (k : Ticked) (q : k ≡ tickOf (r .device) reading) where
   abbrev After : Outcome
@@ -131,10 +119,6 @@ module _ (r : Record) (b : Bool) (tested : b ≡ recordObeys r) where
   unfolding tickCall
   tick-bad t area reading = rw (← tested, not-true b t)
 
-  pub datagram-bad : not b ≡ true → (area datagram : List ℕ) → refused badRecord r area [] ≡ datagramCall r area datagram
-  unfolding datagramCall
-  datagram-bad t area datagram = rw (← tested, not-true b t)
-
   -- s is what the call that tests the area gave
   module _ (t : not b ≡ false) (area part : List ℕ) (whole : part ≡ area) (s : Bool) (sounded : s ≡ areaSound (r .held) part) where
     sound : areaSound (r .held) area ≡ s
@@ -147,10 +131,6 @@ module _ (r : Record) (b : Bool) (tested : b ≡ recordObeys r) where
     pub tick-area : not s ≡ true → (reading : ℕ) → refused badArea r area [] ≡ tickCall r area reading
     unfolding tickCall
     tick-area u reading = rw (← tested, not-false b t, sound, not-true s u)
-
-    pub datagram-area : not s ≡ true → (datagram : List ℕ) → refused badArea r area [] ≡ datagramCall r area datagram
-    unfolding datagramCall
-    datagram-area u datagram = rw (← tested, not-false b t, sound, not-true s u)
 
     module _ (u : not s ≡ false) where
       pub sound-long : length area ≡ areaBytes
@@ -169,15 +149,3 @@ module _ (r : Record) (b : Bool) (tested : b ≡ recordObeys r) where
           → o ≡ tickCall r area reading
       unfolding tickCall
       tick-passed reading o q = rw (← tested, not-false b t, sound, not-false s u) q
-
-      -- m is what the mechanism said of the datagram
-      pub datagram-nothing : (datagram : List ℕ) (m : Bool) → m ≡ resets (r .device .mechanism) datagram → not m ≡ true
-          → outcome (0 ∷ 0 ∷ []) r area [] ≡ datagramCall r area datagram
-      unfolding datagramCall
-      datagram-nothing datagram m q v = rw (← tested, not-false b t, sound, not-false s u, ← q, not-true m v)
-
-      pub datagram-done : (datagram : List ℕ) (m : Bool) → m ≡ resets (r .device .mechanism) datagram → not m ≡ false → (z : Record) (next : List ℕ)
-          → z ≡ freshState (r .device .reading) → next ≡ zeros (length area) → outcome (0 ∷ 1 ∷ []) z next [] ≡ datagramCall r area datagram
-      unfolding datagramCall restarted
-      datagram-done datagram m q v z next x y =
-          rw (← tested, not-false b t, sound, not-false s u, ← q, not-false m v, x, y, sound-long)

@@ -6,7 +6,7 @@ use mathlib.Core.Bool.{cond}
 use lib.ListN.{getD}
 use lib.Dec.{eqb}
 use Rattle.laws.proofs.Inverse.{undone-tells}
-use Rattle.endpoint.specs.Numbers.{badRecord, badArea, noConnection, tableFull, clockBack, clearingNumbers, openingNumbers, closingNumbers, tickingNumbers, deliveryNumbers, takingNumbers, resettingNumbers, Outcome, outcome}
+use Rattle.endpoint.specs.Numbers.{badRecord, badArea, noConnection, tableFull, clockBack, clearingNumbers, openingNumbers, closingNumbers, tickingNumbers, deliveryNumbers, takingNumbers, Outcome, outcome}
 use Rattle.endpoint.specs.Tell.{OneResult, AnswersTell}
 use Rattle.endpoint.specs.declared.Record.{Record}
 use Rattle.endpoint.specs.declared.Clearing.{Clearing}
@@ -21,8 +21,6 @@ use Rattle.endpoint.specs.declared.Delivery.{Delivery}
 use Rattle.endpoint.specs.declared.Delivery.the-variants as delivery
 use Rattle.endpoint.specs.declared.Taking.{Taking}
 use Rattle.endpoint.specs.declared.Taking.the-variants as taking
-use Rattle.endpoint.specs.declared.Resetting.{Resetting}
-use Rattle.endpoint.specs.declared.Resetting.the-variants as resetting
 
 -- each kind of answer made again from its numbers
 clearingBack : List ℕ → Clearing
@@ -107,20 +105,8 @@ taking-back (taking.KeepAlive n k) = refl
 taking-back taking.BadRecord = refl
 taking-back taking.NoRoom = refl
 
-resettingBack : List ℕ → Resetting
-resettingBack l =
-    cond (eqb (getD l 0 0) 0) (cond (eqb (getD l 1 0) 0) resetting.Nothing resetting.Done)
-    (cond (eqb (getD l 0 0) badRecord) resetting.BadRecord resetting.BadArea)
-
-resetting-back : (a : Resetting) → resettingBack (resettingNumbers a) ≡ a
-unfolding resettingBack resettingNumbers
-resetting-back resetting.Nothing = refl
-resetting-back resetting.Done = refl
-resetting-back resetting.BadRecord = refl
-resetting-back resetting.BadArea = refl
-
 -- numbers that tell answers apart leave one result for an outcome
-one-result : {A : Type 0} (numbers : A → List ℕ) → ((a b : A) → numbers a ≡ numbers b → a ≡ b) → OneResult A numbers
+pub one-result : {A : Type 0} (numbers : A → List ℕ) → ((a b : A) → numbers a ≡ numbers b → a ≡ b) → OneResult A numbers
 one-result numbers tells a b s t x y v w o p q = (
   tells a b (ap (λ (z : Outcome). z .answer) (p ∙ sym q)),
   ap (λ (z : Outcome). z .state) (p ∙ sym q),
@@ -143,9 +129,6 @@ deliveries-tell = undone-tells deliveryNumbers deliveryBack delivery-back
 takings-tell : (a b : Taking) → takingNumbers a ≡ takingNumbers b → a ≡ b
 takings-tell = undone-tells takingNumbers takingBack taking-back
 
-resettings-tell : (a b : Resetting) → resettingNumbers a ≡ resettingNumbers b → a ≡ b
-resettings-tell = undone-tells resettingNumbers resettingBack resetting-back
-
 pub answers-tell : AnswersTell
 answers-tell =
     record {
@@ -155,11 +138,9 @@ answers-tell =
       tickings = tickings-tell;
       deliveries = deliveries-tell;
       takings = takings-tell;
-      resettings = resettings-tell;
       opened = one-result openingNumbers openings-tell;
       closed = one-result closingNumbers closings-tell;
       ticked = one-result tickingNumbers tickings-tell;
       delivered = one-result deliveryNumbers deliveries-tell;
       taken = one-result takingNumbers takings-tell;
-      reset = one-result resettingNumbers resettings-tell;
     }

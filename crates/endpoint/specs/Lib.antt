@@ -3,5 +3,4 @@ pub mod Numbers
 pub mod Calls
 pub mod Deliver
 pub mod Take
-pub mod Datagram
 pub mod Tell

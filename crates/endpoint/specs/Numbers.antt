@@ -14,8 +14,6 @@ use Rattle.endpoint.specs.declared.Delivery.{Delivery}
 use Rattle.endpoint.specs.declared.Delivery.the-variants as delivery
 use Rattle.endpoint.specs.declared.Taking.{Taking}
 use Rattle.endpoint.specs.declared.Taking.the-variants as taking
-use Rattle.endpoint.specs.declared.Resetting.{Resetting}
-use Rattle.endpoint.specs.declared.Resetting.the-variants as resetting
 
 -- the numbers of 'What calls refuse'
 abbrev pub badRecord : ℕ
@@ -81,13 +79,6 @@ takingNumbers (taking.Notification n length) = 0 ∷ 1 ∷ n ∷ length ∷ []
 takingNumbers (taking.KeepAlive n length) = 0 ∷ 2 ∷ n ∷ length ∷ []
 takingNumbers taking.BadRecord = badRecord ∷ []
 takingNumbers taking.NoRoom = noRoom ∷ []
-
--- document 02 (ii), "the answer says which": nothing, or a reset
-unfoldable pub resettingNumbers : Resetting → List ℕ
-resettingNumbers resetting.Nothing = 0 ∷ 0 ∷ []
-resettingNumbers resetting.Done = 0 ∷ 1 ∷ []
-resettingNumbers resetting.BadRecord = badRecord ∷ []
-resettingNumbers resetting.BadArea = badArea ∷ []
 
 -- all that a call gives: the answer in the paper's numbers, the record, the area and the output; a call that is not lent one has it empty
 pub record Outcome : Type 0 where

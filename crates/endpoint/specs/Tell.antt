@@ -2,7 +2,7 @@
 use Prim.Native.Nat.{ℕ}
 use mathlib.Core.Path.{_≡_}
 use mathlib.Core.List.{List}
-use Rattle.endpoint.specs.Numbers.{clearingNumbers, openingNumbers, closingNumbers, tickingNumbers, deliveryNumbers, takingNumbers, resettingNumbers, Outcome, outcome}
+use Rattle.endpoint.specs.Numbers.{clearingNumbers, openingNumbers, closingNumbers, tickingNumbers, deliveryNumbers, takingNumbers, Outcome, outcome}
 use Rattle.endpoint.specs.declared.Record.{Record}
 use Rattle.endpoint.specs.declared.Clearing.{Clearing}
 use Rattle.endpoint.specs.declared.Opening.{Opening}
@@ -10,7 +10,6 @@ use Rattle.endpoint.specs.declared.Closing.{Closing}
 use Rattle.endpoint.specs.declared.Ticking.{Ticking}
 use Rattle.endpoint.specs.declared.Delivery.{Delivery}
 use Rattle.endpoint.specs.declared.Taking.{Taking}
-use Rattle.endpoint.specs.declared.Resetting.{Resetting}
 
 -- two results of a call that its outcome allows have the same answer, record, area and output
 abbrev pub OneResult : (A : Type 0) → (A → List ℕ) → Type 0
@@ -25,10 +24,8 @@ pub record AnswersTell : Type 0 where
   pub tickings : (a b : Ticking) → tickingNumbers a ≡ tickingNumbers b → a ≡ b
   pub deliveries : (a b : Delivery) → deliveryNumbers a ≡ deliveryNumbers b → a ≡ b
   pub takings : (a b : Taking) → takingNumbers a ≡ takingNumbers b → a ≡ b
-  pub resettings : (a b : Resetting) → resettingNumbers a ≡ resettingNumbers b → a ≡ b
   pub opened : OneResult Opening openingNumbers
   pub closed : OneResult Closing closingNumbers
   pub ticked : OneResult Ticking tickingNumbers
   pub delivered : OneResult Delivery deliveryNumbers
   pub taken : OneResult Taking takingNumbers
-  pub reset : OneResult Resetting resettingNumbers

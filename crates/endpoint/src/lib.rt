@@ -12,7 +12,6 @@ ghost use Rattle.endpoint.specs.Numbers.{clearingNumbers, openingNumbers
 ghost use Rattle.endpoint.specs.Calls.{clearAnswer, clearedArea, openCall, closeCall, tickedBy, tickCall};
 ghost use Rattle.endpoint.specs.Tell.{AnswersTell};
 
-pub mod datagram;
 pub mod deliver;
 pub mod take;
 
@@ -97,18 +96,6 @@ pub enum Taking {
 pub struct Taken {
     pub state: Record,
     pub answer: Taking,
-}
-
-pub enum Resetting {
-    Nothing,
-    Done,
-    BadRecord,
-    BadArea,
-}
-
-pub struct Reset {
-    pub state: Record,
-    pub answer: Resetting,
 }
 
 // An area of zeros, for a fresh record.

@@ -5,7 +5,7 @@ ghost use Rattle.endpoint.specs.State.{freshState};
 ghost use Rattle.endpoint.specs.Calls.{clearAnswer, clearedArea, openCall, closeCall, tickCall};
 ghost use Rattle.endpoint.specs.Deliver.{deliverCall};
 ghost use Rattle.endpoint.specs.Take.{takeCall};
-ghost use Rattle.endpoint.specs.Datagram.{datagramCall};
+ghost use Rattle.reset.specs.Datagram.{datagramCall};
 ghost use Rattle.host.specs.Answers.{clearedOf, openedOf, closedOf, tickedOf, deliveredOf, takenOf, resetOf};
 
 pub mod messages;
@@ -173,7 +173,7 @@ pub extern "C" fn melorwyth_take(state: Record, output: &mut [u8]) -> Taken
 pub extern "C" fn melorwyth_datagram(state: Record, area: &mut [u8], datagram: &[u8]) -> Reset
     ensures { λ r. ⌜ (r ≡ resetOf (datagramCall state (now (area .entry)) (now (datagram .entry)))) × (now (area .exit) ≡ datagramCall state (now (area .entry)) (now (datagram .entry)) .area) ⌝ }
 {
-    let done = state.datagram(area, datagram);
+    let done = reset::datagram(state, area, datagram);
     let next = done.state;
     let answer = done.answer;
     let told = numbers::of_resetting(answer);

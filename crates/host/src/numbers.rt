@@ -3,11 +3,12 @@ use endpoint::Clearing;
 use endpoint::Closing;
 use endpoint::Delivery;
 use endpoint::Opening;
-use endpoint::Resetting;
 use endpoint::Taking;
 use endpoint::Ticking;
+use reset::Resetting;
 ghost use mathlib.Core.Path.{_≡_};
-ghost use Rattle.endpoint.specs.Numbers.{clearingNumbers, openingNumbers, closingNumbers, tickingNumbers, deliveryNumbers, takingNumbers, resettingNumbers};
+ghost use Rattle.endpoint.specs.Numbers.{clearingNumbers, openingNumbers, closingNumbers, tickingNumbers, deliveryNumbers, takingNumbers};
+ghost use Rattle.reset.specs.Numbers.{resettingNumbers};
 ghost use Rattle.host.specs.Numbers.{at, pairWith, pairOf, deliveryWith, deliveryOf, takingWith, takingOf};
 
 const BAD_RECORD: u8 = 1;

@@ -30,7 +30,7 @@ use Rattle.endpoint.specs.Numbers.{Outcome, outcome}
 use Rattle.endpoint.specs.Calls.{openedBy, openCall, closeCall, tickedBy, tickCall}
 use Rattle.endpoint.specs.Deliver.{leastOutput, takenIn, deliverCall}
 use Rattle.endpoint.specs.Take.{entryAt, notifiedOf, sentOut, notifying, reminding, takenBy, takeCall}
-use Rattle.endpoint.specs.Datagram.{restarted, datagramCall}
+use Rattle.reset.specs.Datagram.{restarted, datagramCall}
 use Rattle.endpoint.specs.declared.Record.{Record}
 use Rattle.endpoint.proofs.States.{live-low}
 use Rattle.promise.specs.Rules as rules

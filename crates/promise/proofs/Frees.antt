@@ -56,7 +56,7 @@ use Rattle.endpoint.specs.State.{stateOf, freshState}
 use Rattle.endpoint.specs.Numbers.{Outcome, outcome}
 use Rattle.endpoint.specs.Deliver.{leastOutput}
 use Rattle.endpoint.specs.Take.{notifiedOf, sentOut, notifying, reminding, takenBy}
-use Rattle.endpoint.specs.Datagram.{datagramCall}
+use Rattle.reset.specs.Datagram.{datagramCall}
 use Rattle.endpoint.specs.declared.Record.{Record}
 use Rattle.promise.specs.Rules as ruling
 use Rattle.promise.specs.Rules.{Ask, opening, closing, ticking, taking, datagram, Asked, Given, messageBy, openBy, closeBy, takeBy, resetBy, rule, shut}

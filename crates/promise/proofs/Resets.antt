@@ -24,7 +24,7 @@ use Rattle.device.specs.declared.Device.{Device}
 use Rattle.stream.specs.Machine.{Call, ask, Held, none-held, only, whole, step}
 use Rattle.endpoint.specs.State.{stateOf, freshState, recordObeys}
 use Rattle.endpoint.specs.Numbers.{badRecord, badArea, Outcome, outcome, refused}
-use Rattle.endpoint.specs.Datagram.{restarted, datagramCall}
+use Rattle.reset.specs.Datagram.{restarted, datagramCall}
 use Rattle.endpoint.specs.declared.Record.{Record}
 use Rattle.promise.specs.Rules.{Ask, datagram, rule, open?, admit, resetBy, callOf}
 use Rattle.promise.specs.Stream.{runOf}

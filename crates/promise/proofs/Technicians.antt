@@ -54,7 +54,7 @@ use Rattle.endpoint.specs.Numbers.{clockBack, Outcome, refused}
 use Rattle.endpoint.specs.Calls.{openedBy, openCall, closeCall, tickedBy, tickCall}
 use Rattle.endpoint.specs.Deliver.{leastOutput, heldAt, messaged, deliveredBy, takenIn, deliverCall}
 use Rattle.endpoint.specs.Take.{entryAt, notifiedOf, sentOut, notifying, reminding, takenBy, takeCall}
-use Rattle.endpoint.specs.Datagram.{datagramCall}
+use Rattle.reset.specs.Datagram.{datagramCall}
 use Rattle.endpoint.specs.declared.Record.{Record}
 use Rattle.endpoint.proofs.States.{live-low}
 use Rattle.promise.specs.Rules as rules

@@ -7,3 +7,4 @@ pub mod Closure
 pub mod Heartbeats
 pub mod Key
 pub mod Reset
+pub mod ResetExamples

@@ -28,7 +28,7 @@ use Rattle.stream.specs.Machine.{Call, ask, message, asked, Held, none-held, st
 use Rattle.stream.specs.Promise.{AllBytes}
 use Rattle.endpoint.specs.State.{freshState, recordObeys}
 use Rattle.endpoint.specs.Numbers.{badRecord, badArea, Outcome, outcome, refused}
-use Rattle.endpoint.specs.Datagram.{restarted, datagramCall}
+use Rattle.reset.specs.Datagram.{restarted, datagramCall}
 use Rattle.endpoint.specs.declared.Record.{Record}
 use Rattle.promise.specs.Rules.{Ask, datagram, Asked, rule, open?, admit, shut}
 use Rattle.promise.specs.Stream.{runOf, machine}

@@ -28,7 +28,7 @@ use Rattle.endpoint.specs.Numbers.{noConnection, noRoom, tableFull, clockBack, 
 use Rattle.endpoint.specs.Calls.{openCall, closeCall, tickCall}
 use Rattle.endpoint.specs.Deliver.{leastOutput, deliverCall}
 use Rattle.endpoint.specs.Take.{takenBy, takeCall}
-use Rattle.endpoint.specs.Datagram.{datagramCall}
+use Rattle.reset.specs.Datagram.{datagramCall}
 use Rattle.endpoint.specs.declared.Record.{Record}
 
 -- the calls that are no delivery

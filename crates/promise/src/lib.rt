@@ -6,6 +6,7 @@ ghost use Rattle.promise.specs.Technician.{TechnicianLetIn};
 ghost use Rattle.promise.specs.Closure.{ClosureLeavesNothing};
 ghost use Rattle.promise.specs.Heartbeats.{HeartbeatSent};
 ghost use Rattle.promise.specs.Reset.{ResetByKey, RackFreeAgain};
+ghost use Rattle.promise.specs.ResetExamples.{ResetWorked};
 ghost use Rattle.promise.specs.Key.{LatestKeyCounts, KeyStaysInside};
 
 // Every call keeps the record rules and the area, so refusals 1 and 2 never come in a run.
@@ -64,4 +65,9 @@ pub fn latest_key_counts()
 // No answer, reply, notification or byte of the area tells anything of the key.
 pub fn key_stays_inside()
     ensures { λ _. ⌜ KeyStaysInside ⌝ }
+{}
+
+// Statuses of 3.14, datagrams and a rack that hung, as one computed table.
+pub fn reset_worked()
+    ensures { λ _. ⌜ ResetWorked ⌝ }
 {}

@@ -14,7 +14,7 @@ use Rattle.endpoint.specs.Numbers.{Outcome, outcome}
 use Rattle.endpoint.specs.Calls.{openCall, closeCall, tickCall}
 use Rattle.endpoint.specs.Deliver.{deliverCall}
 use Rattle.endpoint.specs.Take.{takeCall}
-use Rattle.endpoint.specs.Datagram.{datagramCall}
+use Rattle.reset.specs.Datagram.{datagramCall}
 use Rattle.endpoint.specs.declared.Record.{Record}
 use Rattle.promise.specs.Rules.{Ask, opening, closing, ticking, taking, datagram, callOf}
 use Rattle.promise.specs.Stream.{runOf}

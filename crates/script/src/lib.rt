@@ -3,14 +3,15 @@ use endpoint::Closing;
 use endpoint::Delivery;
 use endpoint::Opening;
 use endpoint::Record;
-use endpoint::Resetting;
 use endpoint::Taking;
 use endpoint::Ticking;
+use reset::Resetting;
 ghost use mathlib.Core.Path.{_≡_};
 ghost use Prim.Native.Nat.{_≤_};
 ghost use mathlib.Core.List.{[], _∷_};
 ghost use lib.ListN.{length};
-ghost use Rattle.endpoint.specs.Numbers.{openingNumbers, closingNumbers, tickingNumbers, deliveryNumbers, takingNumbers, resettingNumbers};
+ghost use Rattle.endpoint.specs.Numbers.{openingNumbers, closingNumbers, tickingNumbers, deliveryNumbers, takingNumbers};
+ghost use Rattle.reset.specs.Numbers.{resettingNumbers};
 ghost use Rattle.stream.specs.Machine.{deliver, ask};
 ghost use Rattle.promise.specs.Rules.{opening, closing, ticking, taking, datagram};
 ghost use Rattle.script.specs.Chain.{ScriptsRun};
@@ -179,10 +180,10 @@ fn take(state: Record, area: &mut [u8], output: &mut [u8]) -> Played
 fn datagram(state: Record, area: &mut [u8], piece: &[u8], output: &mut [u8]) -> Played
     ensures { λ r. ⌜ stage (r .state) (now (area .exit)) (now (output .exit)) (r .answer) ≡ stageOf (ask (datagram (now (piece .entry)))) state (now (area .entry)) (now (output .entry)) ⌝ }
 {
-    let reset = state.datagram(area, piece);
-    let told = reset.answer;
+    let heeded = reset::datagram(state, area, piece);
+    let told = heeded.answer;
     let answer = resetting_numbers(told);
-    let state = reset.state;
+    let state = heeded.state;
     Played { state, answer }
 }
 

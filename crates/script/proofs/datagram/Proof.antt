@@ -4,7 +4,7 @@ use Rattle.script.proofs.datagram.Statement.{statement}
 use Rattle.script.proofs.datagram.Tie as tie
 use Rattle.script.proofs.datagram.Reads as reads
 use Rattle.script.proofs.datagram.Lts as lts
-use Rattle.endpoint.proofs.Record.datagram.Reads as datagram-reads
+use Rattle.reset.proofs.datagram.Reads as datagram-reads
 use Rattle.script.proofs.resetting_numbers.Reads as resetting-numbers-reads
 
 datagram-requires : tie.Need-datagram-requires

@@ -1,5 +1,5 @@
 use Rattle.script.specs.Script.{numbersOf}
-use Rattle.endpoint.specs.Numbers.{resettingNumbers}
+use Rattle.reset.specs.Numbers.{resettingNumbers}
 use borrow.Author.Needs.{needs}
 use Rattle.script.proofs.resetting_numbers.Statement.{statement}
 use Rattle.script.proofs.resetting_numbers.Tie as tie

@@ -1,4 +1,4 @@
-use Rattle.endpoint.specs.Numbers.{resettingNumbers}
+use Rattle.reset.specs.Numbers.{resettingNumbers}
 use Rattle.host.specs.Numbers.{pairOf}
 use borrow.Author.Needs.{needs}
 use Rattle.host.proofs.numbers.of_resetting.Statement.{statement}

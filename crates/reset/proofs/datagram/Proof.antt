@@ -1,11 +1,11 @@
 use native.Mathlib.Omega.{arith}
 use denote.Ref.{now}
 use Rattle.laws.proofs.Parts.{rest}
-use Rattle.endpoint.specs.Numbers.{resettingNumbers}
-use Rattle.endpoint.proofs.States.{sound-long, all-cleared, datagram-bad, datagram-area, datagram-nothing, datagram-done}
+use Rattle.reset.specs.Numbers.{resettingNumbers}
+use Rattle.reset.proofs.Datagrams.{sound-long, all-cleared, datagram-bad, datagram-area, datagram-nothing, datagram-done}
 use borrow.Author.Needs.{needs}
-use Rattle.endpoint.proofs.Record.datagram.Statement.{statement}
-use Rattle.endpoint.proofs.Record.datagram.Tie as tie
+use Rattle.reset.proofs.datagram.Statement.{statement}
+use Rattle.reset.proofs.datagram.Tie as tie
 
 obeys-requires : tie.Need-obeys-requires
 obeys-requires c κs = search needs
@@ -14,7 +14,7 @@ returns : tie.Need-returns
 unfolding resettingNumbers
 returns c =
     let a = c .before .before .before .before .args in
-    datagram-bad (a .self) _ (c .before .obeys .ensures) (c .if1 .taken) (now (a .area)) (now (a .datagram))
+    datagram-bad (a .state) _ (c .before .obeys .ensures) (c .if1 .taken) (now (a .area)) (now (a .datagram))
 
 sub-area-sound : tie.Need-sub-area-sound
 sub-area-sound c = search needs
@@ -36,7 +36,7 @@ unfolding resettingNumbers
 returns-2 c =
     let a = c .before .before .before .before .before .before .before .before .before .args in
     let u = c .before .before .before .before .before in
-    datagram-area (a .self) _ (u .before .obeys .ensures) (u .if1 .left) (now (a .area)) _ (rest 0 (now (a .area))) _ (c .before .area-sound .ensures) (c .if2 .taken) (now (a .datagram))
+    datagram-area (a .state) _ (u .before .obeys .ensures) (u .if1 .left) (now (a .area)) _ (rest 0 (now (a .area))) _ (c .before .area-sound .ensures) (c .if2 .taken) (now (a .datagram))
 
 resets-requires : tie.Need-resets-requires
 resets-requires c κs = search needs
@@ -50,7 +50,7 @@ returns-3 c =
     let v = c .before .before .before .before in
     let u = v .before .before .before .before .before in
     let a = u .before .before .before .before .args in
-    datagram-nothing (a .self) _ (u .before .obeys .ensures) (u .if1 .left) (now (a .area)) _ (rest 0 (now (a .area))) _ (v .before .area-sound .ensures) (v .if2 .left) (now (a .datagram)) _ (c .before .resets .ensures) (c .if3 .taken)
+    datagram-nothing (a .state) _ (u .before .obeys .ensures) (u .if1 .left) (now (a .area)) _ (rest 0 (now (a .area))) _ (v .before .area-sound .ensures) (v .if2 .left) (now (a .datagram)) _ (c .before .resets .ensures) (c .if3 .taken)
 
 sub-clear : tie.Need-sub-clear
 sub-clear c = search needs
@@ -63,7 +63,7 @@ part-clear-end c =
     let v = c .before .before .before .before in
     let u = v .before .before .before .before .before in
     let a = u .before .before .before .before .args in
-    let e = sound-long (a .self) _ (u .before .obeys .ensures) (u .if1 .left) (now (a .area)) _ (rest 0 (now (a .area))) _ (v .before .area-sound .ensures) (v .if2 .left) in
+    let e = sound-long (a .state) _ (u .before .obeys .ensures) (u .if1 .left) (now (a .area)) _ (rest 0 (now (a .area))) _ (v .before .area-sound .ensures) (v .if2 .left) in
     omega arith
 
 clear-requires : tie.Need-clear-requires
@@ -82,9 +82,9 @@ returns-4 c =
     let v = w .before .before .before .before in
     let u = v .before .before .before .before .before in
     let a = u .before .before .before .before .args in
-    let e = sound-long (a .self) _ (u .before .obeys .ensures) (u .if1 .left) (now (a .area)) _ (rest 0 (now (a .area))) _ (v .before .area-sound .ensures) (v .if2 .left) in
+    let e = sound-long (a .state) _ (u .before .obeys .ensures) (u .if1 .left) (now (a .area)) _ (rest 0 (now (a .area))) _ (v .before .area-sound .ensures) (v .if2 .left) in
     let z = all-cleared (now (a .area)) _ e (c .before .before .before .clear .ensures) in
-    datagram-done (a .self) _ (u .before .obeys .ensures) (u .if1 .left) (now (a .area)) _ (rest 0 (now (a .area))) _ (v .before .area-sound .ensures) (v .if2 .left) (now (a .datagram)) _ (w .before .resets .ensures) (w .if3 .left) _ _ (c .fresh .ensures) z
+    datagram-done (a .state) _ (u .before .obeys .ensures) (u .if1 .left) (now (a .area)) _ (rest 0 (now (a .area))) _ (v .before .area-sound .ensures) (v .if2 .left) (now (a .datagram)) _ (w .before .resets .ensures) (w .if3 .left) _ _ (c .fresh .ensures) z
 
 pub datagram-spec : {M : Type 1} → statement M
 datagram-spec =

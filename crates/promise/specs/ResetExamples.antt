@@ -1,0 +1,133 @@
+-- Reset by key with numbers: document 02 (ii), worked by the rules as one table.
+use Prim.Native.Nat.{ℕ, _+_}
+use mathlib.Core.Path.{_≡_}
+use mathlib.Core.List.{List, [], _∷_, _++_, map}
+use lib.ListN.{length, replicate}
+use Rattle.octets.specs.Numbers.{bytes16, bytes32}
+use Rattle.reader.specs.Examples.{lock4097, reply7}
+use Rattle.layout.specs.Message as layouts
+use Rattle.mechanism.specs.Datagram.{sentinel}
+use Rattle.objects.specs.Methods.{deviceManager, subscriptionManager}
+use Rattle.device.specs.declared.Device.{Device}
+use Rattle.stream.specs.Machine.{message, asked}
+use Rattle.promise.specs.Rules.{opening, closing, datagram, rule}
+use Rattle.promise.specs.Examples.{Row, row, twoOpen, afterMessage, replyTo}
+
+-- a command of 3.14 for an object, with handle 7 and this parameter count
+abbrev pub setKey : ℕ → ℕ → List ℕ → List ℕ
+setKey object count part =
+    layouts.message 1 1 (bytes32 (17 + length part) ++ (bytes32 7 ++ (bytes32 object ++ (0 ∷ 3 ∷ 0 ∷ 14 ∷ count ∷ part))))
+
+-- its parameters: the key, the text's length, the text, the port
+abbrev pub arguments : List ℕ → ℕ → List ℕ → ℕ → List ℕ
+arguments key size text port = key ++ (bytes16 size ++ (text ++ bytes16 port))
+
+-- 00 01 .. 0F, and another in one bit
+abbrev pub keyA : List ℕ
+keyA = 0x00 ∷ 0x01 ∷ 0x02 ∷ 0x03 ∷ 0x04 ∷ 0x05 ∷ 0x06 ∷ 0x07 ∷ 0x08 ∷ 0x09 ∷ 0x0A ∷ 0x0B ∷ 0x0C ∷ 0x0D ∷ 0x0E ∷ 0x0F ∷ []
+
+abbrev pub keyB : List ℕ
+keyB = 0x00 ∷ 0x01 ∷ 0x02 ∷ 0x03 ∷ 0x04 ∷ 0x05 ∷ 0x06 ∷ 0x07 ∷ 0x08 ∷ 0x09 ∷ 0x0A ∷ 0x0B ∷ 0x0C ∷ 0x0D ∷ 0x0E ∷ 0x0E ∷ []
+
+abbrev pub noKey : List ℕ
+noKey = replicate 16 0
+
+-- "239.255.0.1"; "240.0.0.1"; "223.255.255.255"; "0.0.0.0"; "239.1.1.01"; "239.1.1"
+abbrev pub text239 : List ℕ
+text239 = 50 ∷ 51 ∷ 57 ∷ 46 ∷ 50 ∷ 53 ∷ 53 ∷ 46 ∷ 48 ∷ 46 ∷ 49 ∷ []
+
+abbrev pub text240 : List ℕ
+text240 = 50 ∷ 52 ∷ 48 ∷ 46 ∷ 48 ∷ 46 ∷ 48 ∷ 46 ∷ 49 ∷ []
+
+abbrev pub text223 : List ℕ
+text223 = 50 ∷ 50 ∷ 51 ∷ 46 ∷ 50 ∷ 53 ∷ 53 ∷ 46 ∷ 50 ∷ 53 ∷ 53 ∷ 46 ∷ 50 ∷ 53 ∷ 53 ∷ []
+
+abbrev pub text0 : List ℕ
+text0 = 48 ∷ 46 ∷ 48 ∷ 46 ∷ 48 ∷ 46 ∷ 48 ∷ []
+
+abbrev pub textLeading : List ℕ
+textLeading = 50 ∷ 51 ∷ 57 ∷ 46 ∷ 49 ∷ 46 ∷ 49 ∷ 46 ∷ 48 ∷ 49 ∷ []
+
+abbrev pub textShort : List ℕ
+textShort = 50 ∷ 51 ∷ 57 ∷ 46 ∷ 49 ∷ 46 ∷ 49 ∷ []
+
+-- the device with connections 0 and 1 open, first read at 5000, after connection 0 armed it with a key, a text and port 50,000
+abbrev pub armedWith : List ℕ → List ℕ → Device
+armedWith key text = afterMessage (twoOpen 5000) 0 (setKey deviceManager 2 (arguments key (length text) text 50000))
+
+abbrev pub mechanismOf : Device → List ℕ
+mechanismOf d = d .mechanism .key ++ (d .mechanism .address ++ (d .mechanism .port ∷ []))
+
+abbrev pub datagramAnswer : Device → List ℕ → List ℕ
+datagramAnswer d g = rule d (asked (datagram g)) .1 .answer
+
+abbrev pub afterDatagram : Device → List ℕ → Device
+afterDatagram d g = rule d (asked (datagram g)) .0
+
+-- the reply to a 3.14 with status 0, and with another
+abbrev pub told : List ℕ → ℕ → Row
+told part status = row (replyTo (twoOpen 0) 0 (setKey deviceManager 2 part)) (2 ∷ 20 ∷ reply7 status)
+
+-- "status 4 for wrong count or lengths, then 7 for the text or port 0"
+abbrev pub statusRows : List Row
+statusRows =
+    told (arguments keyA 0 [] 50000) 0
+    ∷ told (arguments noKey 0 [] 65535) 0
+    ∷ told (arguments keyA 11 text239 1) 0
+    ∷ told (arguments keyA 0 [] 0) 7
+    ∷ told (arguments keyA 9 text240 50000) 7
+    ∷ told (arguments keyA 15 text223 50000) 7
+    ∷ told (arguments keyA 7 text0 50000) 7
+    ∷ told (arguments keyA 10 textLeading 50000) 7
+    ∷ told (arguments keyA 7 textShort 50000) 7
+    ∷ told (arguments keyA 12 text239 50000) 4
+    ∷ told (arguments keyA 10 text239 50000) 4
+    ∷ told keyA 4
+    ∷ told [] 4
+    ∷ row (replyTo (twoOpen 0) 0 (setKey deviceManager 1 (arguments keyA 0 [] 0))) (2 ∷ 20 ∷ reply7 4)
+    ∷ row (replyTo (twoOpen 0) 0 (setKey subscriptionManager 2 (arguments keyA 0 [] 50000))) (2 ∷ 20 ∷ reply7 11)
+    ∷ []
+
+-- "The record keeps key, address (4 bytes, zeros for no text) and port"; "a closure leaves it"; "The latest key counts"
+abbrev pub keptRows : List Row
+keptRows =
+    row (mechanismOf (armedWith keyA [])) (keyA ++ (0 ∷ 0 ∷ 0 ∷ 0 ∷ 50000 ∷ []))
+    ∷ row (mechanismOf (armedWith keyA text239)) (keyA ++ (239 ∷ 255 ∷ 0 ∷ 1 ∷ 50000 ∷ []))
+    ∷ row (mechanismOf (rule (armedWith keyA []) (asked (closing 0)) .0)) (keyA ++ (0 ∷ 0 ∷ 0 ∷ 0 ∷ 50000 ∷ []))
+    ∷ row (datagramAnswer (afterMessage (armedWith keyA []) 1 (setKey deviceManager 2 (arguments keyB 0 [] 50000))) (sentinel ++ keyA)) (0 ∷ 0 ∷ [])
+    ∷ row (datagramAnswer (afterMessage (armedWith keyA []) 1 (setKey deviceManager 2 (arguments keyB 0 [] 50000))) (sentinel ++ keyB)) (0 ∷ 1 ∷ [])
+    ∷ []
+
+-- "A datagram of exactly 24 bytes, the sentinel .. and the key, resets if the mechanism is armed and the key matches"
+abbrev pub datagramRows : List Row
+datagramRows =
+    row (datagramAnswer (armedWith keyA []) (sentinel ++ keyA)) (0 ∷ 1 ∷ [])
+    ∷ row (datagramAnswer (armedWith keyA []) (sentinel ++ keyB)) (0 ∷ 0 ∷ [])
+    ∷ row (datagramAnswer (armedWith keyA []) (sentinel ++ (keyA ++ (0 ∷ [])))) (0 ∷ 0 ∷ [])
+    ∷ row (datagramAnswer (armedWith keyA []) keyA) (0 ∷ 0 ∷ [])
+    ∷ row (datagramAnswer (armedWith keyA []) []) (0 ∷ 0 ∷ [])
+    ∷ row (datagramAnswer (armedWith noKey []) (sentinel ++ noKey)) (0 ∷ 1 ∷ [])
+    ∷ row (datagramAnswer (twoOpen 0) (sentinel ++ noKey)) (0 ∷ 0 ∷ [])
+    ∷ []
+
+-- connection 0 holds 4097 and has hung: another gets status 3; after the reset, whoever comes as connection 0 gets status 0
+abbrev pub hung : Device
+hung = afterMessage (armedWith keyA []) 0 lock4097
+
+abbrev pub again : Device
+again = rule (afterDatagram hung (sentinel ++ keyA)) (asked opening) .0
+
+abbrev pub rackRows : List Row
+rackRows =
+    row (replyTo hung 1 lock4097) (2 ∷ 20 ∷ reply7 3)
+    ∷ row (replyTo again 0 lock4097) (2 ∷ 20 ∷ reply7 0)
+    ∷ row (again .reading ∷ mechanismOf again) (5000 ∷ noKey ++ (0 ∷ 0 ∷ 0 ∷ 0 ∷ 0 ∷ []))
+    ∷ row (datagramAnswer again (sentinel ++ keyA)) (0 ∷ 0 ∷ [])
+    ∷ []
+
+abbrev pub table : List Row
+table = statusRows ++ keptRows ++ datagramRows ++ rackRows
+
+-- every row gives what is wanted
+abbrev pub ResetWorked : Type 0
+ResetWorked = map (λ (r : Row). r .gives) table ≡ map (λ (r : Row). r .wanted) table

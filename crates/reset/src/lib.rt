@@ -1,0 +1,58 @@
+// A datagram that came on the reset mechanism's port: the right one starts the device anew.
+use endpoint::Record;
+ghost use mathlib.Core.Path.{_≡_};
+ghost use mathlib.Core.List.{[]};
+ghost use Rattle.endpoint.specs.Numbers.{outcome};
+ghost use Rattle.reset.specs.Numbers.{resettingNumbers};
+ghost use Rattle.reset.specs.Datagram.{datagramCall};
+ghost use Rattle.reset.specs.Tell.{ResettingsTell};
+
+pub enum Resetting {
+    Nothing,
+    Done,
+    BadRecord,
+    BadArea,
+}
+
+pub struct Reset {
+    pub state: Record,
+    pub answer: Resetting,
+}
+
+// The right one starts the device anew, at its last reading; any other changes nothing.
+pub fn datagram(state: Record, area: &mut [u8], datagram: &[u8]) -> Reset
+    ensures { λ r. ⌜ outcome (resettingNumbers (r .answer)) (r .state) (now (area .exit)) [] ≡ datagramCall state (now (area .entry)) (now (datagram .entry)) ⌝ }
+{
+    if !state.obeys() {
+        return Reset {
+            state,
+            answer: Resetting::BadRecord,
+        };
+    }
+    let held = state.held;
+    if !area::area_sound(&area[0..], held) {
+        return Reset {
+            state,
+            answer: Resetting::BadArea,
+        };
+    }
+    let device = state.device;
+    let mechanism = device.mechanism;
+    if !mechanism.resets(datagram) {
+        return Reset {
+            state,
+            answer: Resetting::Nothing,
+        };
+    }
+    octets::clear(&mut area[0..area::AREA]);
+    let fresh = Record::fresh(device.reading);
+    Reset {
+        state: fresh,
+        answer: Resetting::Done,
+    }
+}
+
+// The numbers of an answer tell it from every other.
+pub fn resettings_tell()
+    ensures { λ _. ⌜ ResettingsTell ⌝ }
+{}
