@@ -1,9 +1,9 @@
 /*
  * Melorwyth: an AES70 (OCP.1) device endpoint whose behaviour is proved.
  *
- * The library reads and writes messages, keeps locks and subscriptions, and
- * decides when a controller is gone. Sockets, TLS, discovery and the clock are
- * yours. It has no heap, no globals, no threads and no callbacks: all state is
+ * The library reads and writes messages, keeps locks and subscriptions, decides
+ * when a controller is gone, and is reset by key. Sockets, TLS, discovery and the
+ * clock are yours. It has no heap, no globals, no threads and no callbacks: all state is
  * a record and an area of bytes, and both are yours. Link libhost.a (x86-64,
  * System V); of the C library it needs memcpy and memset.
  *
@@ -70,8 +70,8 @@
  *
  * A technician restarts a rack whose controllers have all hung. A controller
  * arms the mechanism by method 3.14 of object 1, with a key, a UDP port and, if
- * it likes, an IPv4 multicast group; the latest call counts, and it stays when
- * its connection is closed. From then on a datagram of 24 bytes, the sentinel
+ * it likes, an IPv4 multicast group; the latest that got status 0 counts, and it
+ * stays when its connection is closed. From then on a datagram of 24 bytes, the sentinel
  * and the key, resets the device: a fresh record at the last reading, an area of
  * zeros, the mechanism disarmed. Any other datagram changes nothing. Besides the
  * calls above you owe it this:
@@ -87,7 +87,8 @@
  *   since; and bytes read from such a socket before are dropped.
  * - Secrecy, where there may be sabotage: whoever has the key can reset, so let
  *   3.14 come over secure connections only (the draft, 5.4.3). The key stands in
- *   the record: keep the record out of displays and logs that others read.
+ *   the record, and while a 3.14 is half received in the area and in whatever you
+ *   read it into: keep these out of displays and logs that others read.
  * - A switch, jumper or panel command on the device that disables the mechanism
  *   (the draft, 5.4.3): while it is off, open no socket and hand over nothing.
  *

@@ -1,6 +1,6 @@
 //! The boundary's layout is compared too: each program below takes the record
-//! or hands back the answer with two fields changed over, as a caller with a
-//! wrong layout would see it, and the gate's runs have to find it.
+//! or hands back the answer with two fields, or bytes of one, changed over, as a
+//! caller with a wrong layout would see it, and the gate's runs have to find it.
 
 use compare::answer::{
     Cleared, Closed, Delivered, Entry, Opened, Part, Reading, Reset, Taken, Ticked, Written,

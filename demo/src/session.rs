@@ -186,13 +186,15 @@ impl<W: Write> Session<W> {
         if let Err(error) = restart.send() {
             return self.say(error);
         }
+        let before = self.tablets.len();
         let until = Instant::now() + PATIENCE;
         while !self.tablets.is_empty() && Instant::now() < until {
             self.attend(TURN, |_| false)?;
         }
-        match self.tablets.is_empty() {
-            true => Ok(()),
-            false => self.say("nothing was closed: that was no reset"),
+        match self.tablets.len() {
+            0 => Ok(()),
+            left if left == before => self.say("nothing was closed: that was no reset"),
+            left => self.say(format!("{left} of {before} connections are still open")),
         }
     }
 

@@ -25,7 +25,7 @@ pub fn status(number: u8) -> String {
         4 => "wrong count or length",
         5 => "no such object",
         6 => "emitter not a mute, or event not 1.1",
-        7 => "mode not 1, mute not 1 or 2, or no address or port for a reset",
+        7 => "mode not 1, mute not 1 or 2, or a text or port that 3.14 does not take",
         8 => "not for a manager",
         9 => "not held, or held already",
         10 => "no free entry",

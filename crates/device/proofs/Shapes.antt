@@ -1,6 +1,7 @@
 -- Which command it is, and what its arguments are. Assumes nothing.
 use Prim.Native.Nat.{ℕ, _+_, _-_, _<_}
 use mathlib.Core.Path.{_≡_, refl, sym, ap, _∙_}
+use mathlib.Core.Logic.{_⊎_, inl, inr}
 use mathlib.Core.Bool.{Bool, true, false, cond, not, _&&_, _||_, and-true, or-false}
 use mathlib.Core.List.{List, [], _∷_}
 use native.Mathlib.Omega.{arith}
@@ -8,7 +9,7 @@ use borrow.Author.Tests.{ne-eqb, eqb-true}
 use lib.Dec.{eqb}
 use lib.ListN.{length, getD}
 use Rattle.laws.proofs.Parts.{nil-of}
-use Rattle.laws.proofs.Tables.{or-neither}
+use Rattle.laws.proofs.Tables.{or-cases}
 use Rattle.mechanism.specs.Arguments.{isMisfit}
 use Rattle.subscription.specs.State.{isMute}
 use Rattle.objects.specs.Methods.{classMethod, lockableMethod, lockMethod, unlockMethod, getMethod, setMethod, addMethod, removeMethod, resetKeyMethod, placeOf, isManager, isObject, isTelling, isLocking, isMuting, isSubscribing, hasMethod}
@@ -87,9 +88,20 @@ pub target-is : (t at : ℕ) → isMute t ≡ true → at ≡ placeOf t → 4097
 unfolding placeOf
 target-is t at h e = omega (arith, mute-at t h)
 
-telling-not : (m : ℕ) → (m ≡ classMethod → ⊥) → (m ≡ lockableMethod → ⊥) → isTelling m ≡ false
+pub is-told : (m : ℕ) (b : Bool) → b ≡ isTelling m → b ≡ true → isTelling m ≡ true
+is-told m b q t = sym q ∙ t
+
+-- what is told by a method that is not 1.1 is 1.2
+told-else : (m : ℕ) → isTelling m ≡ true → (m ≡ classMethod → ⊥) → m ≡ lockableMethod
 unfolding isTelling
-telling-not m a b = rw (ne-eqb m classMethod a, ne-eqb m lockableMethod b)
+told-else m t n = eqb-true m lockableMethod (rw (ne-eqb m classMethod n) at t)
+
+module _ (d : Device) (t m : ℕ) (r : Ran) where
+  pub tell-class : m ≡ classMethod → r ≡ unchanged d (answerOf d t classMethod) → r ≡ unchanged d (answerOf d t m)
+  tell-class e q = rw e q
+
+  pub tell-lockable : isTelling m ≡ true → (m ≡ classMethod → ⊥) → r ≡ unchanged d (answerOf d t lockableMethod) → r ≡ unchanged d (answerOf d t m)
+  tell-lockable k n q = rw (told-else m k n) q
 
 subscribing-not : (m : ℕ) → (m ≡ addMethod → ⊥) → (m ≡ removeMethod → ⊥) → isSubscribing m ≡ false
 unfolding isSubscribing
@@ -134,11 +146,11 @@ module _ (t k count : ℕ) (part : List ℕ) (s : ℕ) (es : s ≡ firstStatus t
   unfolding countOf
   arm-formed e = rw e at (passed .formed)
 
-  module _ (c : k ≡ classMethod → ⊥) (l : k ≡ lockableMethod → ⊥) (a : k ≡ addMethod → ⊥) (r : k ≡ removeMethod → ⊥) (y : k ≡ resetKeyMethod → ⊥) where
+  module _ (b : Bool) (eb : b ≡ isTelling k) (c : b ≡ false) (a : k ≡ addMethod → ⊥) (r : k ≡ removeMethod → ⊥) (y : k ≡ resetKeyMethod → ⊥) where
     pub mute-left : isMute t ≡ true
     unfolding hasMethod isForbidden isObject
     mute-left =
-        let method : (isLocking k || (isMuting k && isMute t)) ≡ true = simp (telling-not k c l, subscribing-not k a r, ne-eqb k resetKeyMethod y, or-false) at (passed .method) in
+        let method : (isLocking k || (isMuting k && isMute t)) ≡ true = simp (sym eb ∙ c, subscribing-not k a r, ne-eqb k resetKeyMethod y, or-false) at (passed .method) in
         mute-of (isLocking k) (isMuting k) (isManager t) (isMute t) method (passed .allowed) (passed .object)
 
     module _ (f : k ≡ lockMethod → ⊥) (u : k ≡ unlockMethod → ⊥) (g : k ≡ getMethod → ⊥) where
@@ -147,7 +159,7 @@ module _ (t k count : ℕ) (part : List ℕ) (s : ℕ) (es : s ≡ firstStatus t
       set-left =
           eqb-true k setMethod
           (simp (
-            telling-not k c l,
+            sym eb ∙ c,
             subscribing-not k a r,
             ne-eqb k resetKeyMethod y,
             mute-left,
@@ -188,11 +200,16 @@ module _ (d : Device) (n t m count : ℕ) (part : List ℕ) (k : ℕ) (ek : k �
         let c = first-allowed t k count part (sym es ∙ z) .1 in
         e ∙ ap (λ (j : ℕ). runOf d n t k j part) (sym c) ∙ ap (λ (j : ℕ). runOf d n t j count part) ek
 
-    pub run-class : k ≡ classMethod → (o : Ran) → o ≡ unchanged d (answerOf d t classMethod) → o ≡ runOf d n t m count part
-    run-class e o q = as-run o (as-class d n t k part o (allowed .formed) (allowed .object) e q)
+    pub run-tell : (b : Bool) → b ≡ isTelling k → b ≡ true → (o : Ran) → o ≡ unchanged d (answerOf d t k) → o ≡ runOf d n t m count part
+    unfolding isTelling
+    run-tell b eb e o q = go (or-cases (eqb k classMethod) (eqb k lockableMethod) (sym eb ∙ e))
+      where
+        named : (j : ℕ) → k ≡ j → o ≡ unchanged d (answerOf d t j)
+        named j f = q ∙ ap (λ (x : ℕ). unchanged d (answerOf d t x)) f
 
-    pub run-lockable : k ≡ lockableMethod → (o : Ran) → o ≡ unchanged d (answerOf d t lockableMethod) → o ≡ runOf d n t m count part
-    run-lockable e o q = as-run o (as-lockable d n t k part o (allowed .formed) (allowed .object) e q)
+        go : (eqb k classMethod ≡ true) ⊎ (eqb k lockableMethod ≡ true) → o ≡ runOf d n t m count part
+        go (inl f) = let g = eqb-true k classMethod f in as-run o (as-class d n t k part o (allowed .formed) (allowed .object) g (named classMethod g))
+        go (inr f) = let g = eqb-true k lockableMethod f in as-run o (as-lockable d n t k part o (allowed .formed) (allowed .object) g (named lockableMethod g))
 
     pub run-add : k ≡ addMethod → (o : Ran) → o ≡ runOf d n 4 addMethod 5 part → o ≡ runOf d n t m count part
     run-add e o q =
@@ -209,10 +226,10 @@ module _ (d : Device) (n t m count : ℕ) (part : List ℕ) (k : ℕ) (ek : k �
         let u : t ≡ 1 = arm-at t (ap (hasMethod t) (sym e) ∙ allowed .method) in
         as-run o (as-arm d n t k part o (allowed .formed) e (q n ∙ ap (λ (j : ℕ). runOf d n j resetKeyMethod 2 part) (sym u)))
 
-    module _ (c : k ≡ classMethod → ⊥) (l : k ≡ lockableMethod → ⊥) (a : k ≡ addMethod → ⊥) (r : k ≡ removeMethod → ⊥) (y : k ≡ resetKeyMethod → ⊥) (at : ℕ) (p : (at ≡ placeOf t) × (at < 8)) where
+    module _ (b : Bool) (eb : b ≡ isTelling k) (c : b ≡ false) (a : k ≡ addMethod → ⊥) (r : k ≡ removeMethod → ⊥) (y : k ≡ resetKeyMethod → ⊥) (at : ℕ) (p : (at ≡ placeOf t) × (at < 8)) where
       as-mute : (o : Ran) → o ≡ runOf d n (4097 + at) k (countOf k) part → o ≡ runOf d n t m count part
       as-mute o q =
-          let here = target-is t at (mute-left t k count part s es z c l a r y) (p .0) in
+          let here = target-is t at (mute-left t k count part s es z b eb c a r y) (p .0) in
           as-run o (q ∙ ap (λ (j : ℕ). runOf d n j k (countOf k) part) here)
 
       pub run-lock : k ≡ lockMethod → (o : Ran) → o ≡ runOf d n (4097 + at) lockMethod 0 [] → o ≡ runOf d n t m count part
@@ -227,6 +244,6 @@ module _ (d : Device) (n t m count : ℕ) (part : List ℕ) (k : ℕ) (ek : k �
       pub run-set : (k ≡ lockMethod → ⊥) → (k ≡ unlockMethod → ⊥) → (k ≡ getMethod → ⊥) → (o : Ran) → o ≡ runOf d n (4097 + at) setMethod 1 (getD part 0 0 ∷ []) → o ≡ runOf d n t m count part
       unfolding countOf
       run-set f u g o q =
-          let e = set-left t k count part s es z c l a r y f u g in
-          let w = one-of part (set-size t k count part s es z c l a r y f u g) in
+          let e = set-left t k count part s es z b eb c a r y f u g in
+          let w = one-of part (set-size t k count part s es z b eb c a r y f u g) in
           as-mute o (rw e (q ∙ ap (λ (y : List ℕ). runOf d n (4097 + at) setMethod 1 y) (sym w)))

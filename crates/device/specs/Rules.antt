@@ -11,4 +11,5 @@ use Rattle.device.specs.declared.Device.{Device}
 
 unfoldable pub deviceObeys : Device → Bool
 deviceObeys d =
-    all connectionObeys (d .connections) && all (entryObeys (d .connections)) (d .subscriptions) && allPairs apart (d .subscriptions) && all isMuteValue (d .mutes) && all (holderObeys (d .connections)) (d .holders) && mechanismObeys (d .mechanism)
+    all connectionObeys (d .connections) && all (entryObeys (d .connections)) (d .subscriptions) && allPairs apart (d .subscriptions)
+    && all isMuteValue (d .mutes) && all (holderObeys (d .connections)) (d .holders) && mechanismObeys (d .mechanism)

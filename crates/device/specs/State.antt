@@ -37,19 +37,47 @@ freshOf reading =
 -- a device with one part changed
 abbrev pub withConnections : Device → List Connection → Device
 withConnections d cs =
-    record { reading = d .reading; connections = cs; subscriptions = d .subscriptions; mutes = d .mutes; holders = d .holders; mechanism = d .mechanism }
+    record {
+      reading = d .reading;
+      connections = cs;
+      subscriptions = d .subscriptions;
+      mutes = d .mutes;
+      holders = d .holders;
+      mechanism = d .mechanism;
+    }
 
 abbrev pub withSubscriptions : Device → List Subscription → Device
 withSubscriptions d ss =
-    record { reading = d .reading; connections = d .connections; subscriptions = ss; mutes = d .mutes; holders = d .holders; mechanism = d .mechanism }
+    record {
+      reading = d .reading;
+      connections = d .connections;
+      subscriptions = ss;
+      mutes = d .mutes;
+      holders = d .holders;
+      mechanism = d .mechanism;
+    }
 
 abbrev pub withHolders : Device → List ℕ → Device
 withHolders d hs =
-    record { reading = d .reading; connections = d .connections; subscriptions = d .subscriptions; mutes = d .mutes; holders = hs; mechanism = d .mechanism }
+    record {
+      reading = d .reading;
+      connections = d .connections;
+      subscriptions = d .subscriptions;
+      mutes = d .mutes;
+      holders = hs;
+      mechanism = d .mechanism;
+    }
 
 abbrev pub withMechanism : Device → Mechanism → Device
 withMechanism d m =
-    record { reading = d .reading; connections = d .connections; subscriptions = d .subscriptions; mutes = d .mutes; holders = d .holders; mechanism = m }
+    record {
+      reading = d .reading;
+      connections = d .connections;
+      subscriptions = d .subscriptions;
+      mutes = d .mutes;
+      holders = d .holders;
+      mechanism = m;
+    }
 
 -- "Opening gives the lowest free number with all counts zero"; "TableFull: opening with 8 open"
 unfoldable pub openOf : Device → Opened

@@ -18,7 +18,14 @@ stepOf reading last = (reading + 2 ^ 32 - last) % 2 ^ 32
 -- the device at a reading, with these connections
 abbrev pub advanced : Device → ℕ → List Connection → Device
 advanced d reading cs =
-    record { reading = reading; connections = cs; subscriptions = d .subscriptions; mutes = d .mutes; holders = d .holders; mechanism = d .mechanism }
+    record {
+      reading = reading;
+      connections = cs;
+      subscriptions = d .subscriptions;
+      mutes = d .mutes;
+      holders = d .holders;
+      mechanism = d .mechanism;
+    }
 
 -- "6 ClockBack: step of 2^31 or more", "7 Overrun: silence or quiet plus step does not fit 64 bits";
 -- "The tick's answer is a byte, bit n set for connection n closed"

@@ -4,11 +4,11 @@ use crate::Ran;
 use objects::Answer;
 use subscription::Subscription;
 ghost use mathlib.Core.Path.{_≡_};
-ghost use mathlib.Core.Bool.{false};
+ghost use mathlib.Core.Bool.{true, false};
 ghost use mathlib.Core.List.{[], _∷_};
 ghost use Prim.Native.Nat.{_+_, _<_, ℕ};
 ghost use Rattle.subscription.specs.State.{firstMute};
-ghost use Rattle.objects.specs.Methods.{methodNumber, deviceManager, subscriptionManager, classMethod, lockableMethod, lockMethod, unlockMethod, getMethod, setMethod, addMethod, removeMethod, resetKeyMethod};
+ghost use Rattle.objects.specs.Methods.{methodNumber, deviceManager, subscriptionManager, classMethod, lockableMethod, lockMethod, unlockMethod, getMethod, setMethod, addMethod, removeMethod, resetKeyMethod, isTelling};
 ghost use Rattle.objects.specs.Tests.{isMalformed};
 ghost use Rattle.device.specs.Run.{answerOf, unchanged, runOf};
 
@@ -34,6 +34,18 @@ impl Device {
         Ran {
             device: self,
             answer: Answer::byte(0),
+        }
+    }
+
+    // The methods that every object has, and that change nothing.
+    fn tell(self, target: u32, m: u32) -> Ran
+        requires { ⌜ isTelling m ≡ true ⌝ }
+        ensures { λ r. ⌜ r ≡ unchanged self (answerOf self target m) ⌝ }
+    {
+        if m == objects::CLASS {
+            self.class_identification(target)
+        } else {
+            self.lockable(target)
         }
     }
 
@@ -194,7 +206,7 @@ impl Device {
         requires { ⌜ isMalformed resetKeyMethod 2 (now part) ≡ false ⌝ }
         ensures { λ r. ⌜ ((n : ℕ) → r ≡ runOf self n deviceManager resetKeyMethod 2 (now (part .entry))) ⌝ }
     {
-        let armed = mechanism::armed_by(part);
+        let armed = mechanism::arming_of(part);
         if !armed.taken {
             return Ran {
                 device: self,
@@ -221,11 +233,8 @@ impl Device {
                 answer: Answer::failed(status),
             };
         }
-        if m == objects::CLASS {
-            return self.class_identification(target);
-        }
-        if m == objects::LOCKABLE {
-            return self.lockable(target);
+        if objects::is_telling(m) {
+            return self.tell(target, m);
         }
         if m == objects::ADD {
             return self.subscribe(n, part);

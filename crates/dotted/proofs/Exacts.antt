@@ -12,7 +12,7 @@ use Rattle.laws.proofs.Conds.{and-left, and-right}
 use Rattle.laws.proofs.Tables.{clash}
 use Rattle.dotted.specs.declared.Part.{Part}
 use Rattle.dotted.specs.declared.Dotted.{Dotted}
-use Rattle.dotted.specs.Text.{isDigit, partOf, fieldsOf, noAddress, anAddress, addressOf, ofParts, partsOf, dottedOf, textOf}
+use Rattle.dotted.specs.Text.{isDigit, textPart, textFields, notDotted, dottedAs, fourParts, ofParts, partsOf, dottedOf, textOf}
 use Rattle.dotted.specs.Exact.{Spelled, DottedExact}
 use Rattle.dotted.proofs.Spellings.{sound-spelt, spelt-sound, aPart}
 use Rattle.dotted.proofs.Fields.{digits-undotted, whole, first-field, joined, joined-fields}
@@ -23,16 +23,16 @@ pub record Told (a b c d : Part) : Type 0 where
   pub second : b .sound ≡ true
   pub third : c .sound ≡ true
   pub fourth : d .sound ≡ true
-  pub is : addressOf a b c d ≡ anAddress (a .number) (b .number) (c .number) (d .number)
+  pub is : fourParts a b c d ≡ dottedAs (a .number) (b .number) (c .number) (d .number)
 
-told : (a b c d : Part) → addressOf a b c d .sound ≡ true → Told a b c d
-unfolding addressOf
+told : (a b c d : Part) → fourParts a b c d .sound ≡ true → Told a b c d
+unfolding fourParts
 told a b c d e = go (a .sound && b .sound && c .sound && d .sound) refl e
   where
     yes₄ : Dotted
-    yes₄ = anAddress (a .number) (b .number) (c .number) (d .number)
+    yes₄ = dottedAs (a .number) (b .number) (c .number) (d .number)
 
-    go : (t : Bool) → (a .sound && b .sound && c .sound && d .sound) ≡ t → cond t yes₄ noAddress .sound ≡ true → Told a b c d
+    go : (t : Bool) → (a .sound && b .sound && c .sound && d .sound) ≡ t → cond t yes₄ notDotted .sound ≡ true → Told a b c d
     go false q e = clash (Told a b c d) false e refl
     go true q e =
         let three = and-left (a .sound && b .sound && c .sound) (d .sound) q in
@@ -52,11 +52,11 @@ pub record Sound (t : List ℕ) (r : Dotted) : Type 0 where
 
 four-sound :
     (a b c d : List ℕ) →
-    addressOf (partOf a) (partOf b) (partOf c) (partOf d) .sound ≡ true →
-    Sound (joined (a ∷ b ∷ c ∷ d ∷ [])) (addressOf (partOf a) (partOf b) (partOf c) (partOf d))
+    fourParts (textPart a) (textPart b) (textPart c) (textPart d) .sound ≡ true →
+    Sound (joined (a ∷ b ∷ c ∷ d ∷ [])) (fourParts (textPart a) (textPart b) (textPart c) (textPart d))
 unfolding joined textOf
 four-sound a b c d e =
-    let s = told (partOf a) (partOf b) (partOf c) (partOf d) e in
+    let s = told (textPart a) (textPart b) (textPart c) (textPart d) e in
     let p = sound-spelt a (s .first) in
     let q = sound-spelt b (s .second) in
     let r = sound-spelt c (s .third) in
@@ -72,35 +72,35 @@ four-sound a b c d e =
 
 sound-all : (t : List ℕ) → dottedOf t .sound ≡ true → Sound t (dottedOf t)
 unfolding dottedOf ofParts partsOf
-sound-all t e = go (fieldsOf t) (joined-fields t) e
+sound-all t e = go (textFields t) (joined-fields t) e
   where
-    no : (r : Dotted) → noAddress .sound ≡ true → Sound t r
+    no : (r : Dotted) → notDotted .sound ≡ true → Sound t r
     no r e = clash (Sound t r) false e refl
 
-    go : (fs : List (List ℕ)) → joined fs ≡ t → ofParts (map partOf fs) .sound ≡ true → Sound t (ofParts (map partOf fs))
-    go [] j e = no noAddress e
-    go (a ∷ []) j e = no noAddress e
-    go (a ∷ b ∷ []) j e = no noAddress e
-    go (a ∷ b ∷ c ∷ []) j e = no noAddress e
+    go : (fs : List (List ℕ)) → joined fs ≡ t → ofParts (map textPart fs) .sound ≡ true → Sound t (ofParts (map textPart fs))
+    go [] j e = no notDotted e
+    go (a ∷ []) j e = no notDotted e
+    go (a ∷ b ∷ []) j e = no notDotted e
+    go (a ∷ b ∷ c ∷ []) j e = no notDotted e
     go (a ∷ b ∷ c ∷ d ∷ []) j e = rw j at (four-sound a b c d e)
-    go (a ∷ b ∷ c ∷ d ∷ f ∷ fs) j e = no noAddress e
+    go (a ∷ b ∷ c ∷ d ∷ f ∷ fs) j e = no notDotted e
 
-address-four : (a b c d : Part) → length (addressOf a b c d .address) ≡ 4
-unfolding addressOf
+address-four : (a b c d : Part) → length (fourParts a b c d .address) ≡ 4
+unfolding fourParts
 address-four a b c d = go (a .sound && b .sound && c .sound && d .sound)
   where
-    go : (t : Bool) → length (cond t (anAddress (a .number) (b .number) (c .number) (d .number)) noAddress .address) ≡ 4
+    go : (t : Bool) → length (cond t (dottedAs (a .number) (b .number) (c .number) (d .number)) notDotted .address) ≡ 4
     go true = refl
     go false = refl
 
-address-zeros : (a b c d : Part) → addressOf a b c d .sound ≡ false → addressOf a b c d .address ≡ 0 ∷ 0 ∷ 0 ∷ 0 ∷ []
-unfolding addressOf
+address-zeros : (a b c d : Part) → fourParts a b c d .sound ≡ false → fourParts a b c d .address ≡ 0 ∷ 0 ∷ 0 ∷ 0 ∷ []
+unfolding fourParts
 address-zeros a b c d e = go (a .sound && b .sound && c .sound && d .sound) e
   where
     yes₄ : Dotted
-    yes₄ = anAddress (a .number) (b .number) (c .number) (d .number)
+    yes₄ = dottedAs (a .number) (b .number) (c .number) (d .number)
 
-    go : (t : Bool) → cond t yes₄ noAddress .sound ≡ false → cond t yes₄ noAddress .address ≡ 0 ∷ 0 ∷ 0 ∷ 0 ∷ []
+    go : (t : Bool) → cond t yes₄ notDotted .sound ≡ false → cond t yes₄ notDotted .address ≡ 0 ∷ 0 ∷ 0 ∷ 0 ∷ []
     go true e = clash (yes₄ .address ≡ 0 ∷ 0 ∷ 0 ∷ 0 ∷ []) true refl e
     go false e = refl
 
@@ -148,7 +148,7 @@ text-parts a b c d p q r s =
     )
 
 pub dotted-exact : DottedExact
-unfolding dottedOf ofParts addressOf
+unfolding dottedOf ofParts fourParts
 dotted-exact =
     record {
       accepts = λ a b c d p q r s. rw (text-parts a b c d p q r s);

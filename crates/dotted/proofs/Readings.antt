@@ -9,11 +9,11 @@ use lib.Dec.{leb}
 use borrow.Author.Tests.{leb-true, eq-eqb, ne-eqb}
 use Rattle.laws.proofs.Conds.{and-right}
 use Rattle.dotted.specs.declared.Part.{Part}
-use Rattle.dotted.specs.Text.{dot, isDot, isDigit, isLeading, valueOf, noPart, partIf, noAddress, anAddress, addressOf}
-use Rattle.dotted.specs.Text.{oneDigit, twoDigits, threeDigits, partOf}
+use Rattle.dotted.specs.Text.{dot, isDot, isDigit, isLeading, digitValue, noPart, partIf, notDotted, dottedAs, fourParts}
+use Rattle.dotted.specs.Text.{oneDigit, twoDigits, threeDigits, textPart}
 
-pub value-below : (x : ℕ) → x < 48 → 0 ≡ valueOf x
-unfolding valueOf
+pub value-below : (x : ℕ) → x < 48 → 0 ≡ digitValue x
+unfolding digitValue
 value-below x h = omega arith
 
 pub part-taken : (b : Bool) (n : ℕ) → (b && leb n 255) ≡ true → record { sound = true; number = n } ≡ partIf b n
@@ -33,37 +33,37 @@ pub three-read :
     f ≡ isLeading a →
     g ≡ isDigit b →
     h ≡ isDigit c →
-    x ≡ valueOf a →
-    y ≡ valueOf b →
-    z ≡ valueOf c →
+    x ≡ digitValue a →
+    y ≡ digitValue b →
+    z ≡ digitValue c →
     partIf (f && g && h) (x * 100 + y * 10 + z) ≡ threeDigits a b c
 unfolding threeDigits
 three-read a b c x y z f g h p q r u v w = rw (p, q, r, u, v, w)
 
 -- the bytes at the places of a part of that length
-pub part-one : (s : List ℕ) → length s ≡ 1 → oneDigit (getD s 0 0) ≡ partOf s
-unfolding partOf
+pub part-one : (s : List ℕ) → length s ≡ 1 → oneDigit (getD s 0 0) ≡ textPart s
+unfolding textPart
 part-one [] e = absurd (omega arith)
 part-one (a ∷ []) e = refl
 part-one (a ∷ b ∷ s) e = absurd (omega arith)
 
-pub part-two : (s : List ℕ) → length s ≡ 2 → twoDigits (getD s 0 0) (getD s 1 0) ≡ partOf s
-unfolding partOf
+pub part-two : (s : List ℕ) → length s ≡ 2 → twoDigits (getD s 0 0) (getD s 1 0) ≡ textPart s
+unfolding textPart
 part-two [] e = absurd (omega arith)
 part-two (a ∷ []) e = absurd (omega arith)
 part-two (a ∷ b ∷ []) e = refl
 part-two (a ∷ b ∷ c ∷ s) e = absurd (omega arith)
 
-pub part-three : (s : List ℕ) → length s ≡ 3 → threeDigits (getD s 0 0) (getD s 1 0) (getD s 2 0) ≡ partOf s
-unfolding partOf
+pub part-three : (s : List ℕ) → length s ≡ 3 → threeDigits (getD s 0 0) (getD s 1 0) (getD s 2 0) ≡ textPart s
+unfolding textPart
 part-three [] e = absurd (omega arith)
 part-three (a ∷ []) e = absurd (omega arith)
 part-three (a ∷ b ∷ []) e = absurd (omega arith)
 part-three (a ∷ b ∷ c ∷ []) e = refl
 part-three (a ∷ b ∷ c ∷ d ∷ s) e = absurd (omega arith)
 
-pub part-none : (s : List ℕ) → (length s ≡ 1 → ⊥) → (length s ≡ 2 → ⊥) → (length s ≡ 3 → ⊥) → noPart ≡ partOf s
-unfolding partOf
+pub part-none : (s : List ℕ) → (length s ≡ 1 → ⊥) → (length s ≡ 2 → ⊥) → (length s ≡ 3 → ⊥) → noPart ≡ textPart s
+unfolding textPart
 part-none [] f g h = refl
 part-none (a ∷ []) f g h = absurd (f refl)
 part-none (a ∷ b ∷ []) f g h = absurd (g refl)
@@ -81,10 +81,10 @@ no-dot x e = ne-eqb x dot e
 
 module _ (a b c d : Part) where
   pub address-taken :
-      (a .sound && b .sound && c .sound && d .sound) ≡ true → anAddress (a .number) (b .number) (c .number) (d .number) ≡ addressOf a b c d
-  unfolding addressOf
+      (a .sound && b .sound && c .sound && d .sound) ≡ true → dottedAs (a .number) (b .number) (c .number) (d .number) ≡ fourParts a b c d
+  unfolding fourParts
   address-taken h = rw h
 
-  pub address-refused : (a .sound && b .sound && c .sound && d .sound) ≡ false → noAddress ≡ addressOf a b c d
-  unfolding addressOf
+  pub address-refused : (a .sound && b .sound && c .sound && d .sound) ≡ false → notDotted ≡ fourParts a b c d
+  unfolding fourParts
   address-refused h = rw h

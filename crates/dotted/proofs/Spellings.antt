@@ -13,7 +13,7 @@ use Rattle.laws.proofs.Conds.{and-left, and-right}
 use Rattle.laws.proofs.Tables.{and-both, clash}
 use Rattle.laws.proofs.Decimals.{one-digit, more-digits}
 use Rattle.dotted.specs.declared.Part.{Part}
-use Rattle.dotted.specs.Text.{isDigit, isLeading, valueOf, noPart, partIf, oneDigit, twoDigits, threeDigits, partOf}
+use Rattle.dotted.specs.Text.{isDigit, isLeading, digitValue, noPart, partIf, oneDigit, twoDigits, threeDigits, textPart}
 
 -- the digits of a number of one, two or three
 spelt-one : (n : ℕ) → n < 10 → decimalOf n ≡ digit n ∷ []
@@ -46,23 +46,23 @@ leading-is : (x : ℕ) → 1 ≤ x → x < 10 → isLeading (digit x) ≡ true
 unfolding isLeading
 leading-is x l h = and-both (leb 49 (48 + x)) (leb (48 + x) 57) (le-leb 49 (48 + x) (omega arith)) (le-leb (48 + x) 57 (omega arith))
 
-digit-of : (x : ℕ) → isDigit x ≡ true → (x ≡ digit (valueOf x)) × (valueOf x < 10)
-unfolding isDigit valueOf
+digit-of : (x : ℕ) → isDigit x ≡ true → (x ≡ digit (digitValue x)) × (digitValue x < 10)
+unfolding isDigit digitValue
 digit-of x e =
     let l = leb-true 48 x (and-left (leb 48 x) (leb x 57) e) in
     let h = leb-true x 57 (and-right (leb 48 x) (leb x 57) e) in (omega arith, omega arith)
 
-leading-of : (x : ℕ) → isLeading x ≡ true → (x ≡ digit (valueOf x)) × (valueOf x < 10) × (1 ≤ valueOf x)
-unfolding isLeading valueOf
+leading-of : (x : ℕ) → isLeading x ≡ true → (x ≡ digit (digitValue x)) × (digitValue x < 10) × (1 ≤ digitValue x)
+unfolding isLeading digitValue
 leading-of x e =
     let l = leb-true 49 x (and-left (leb 49 x) (leb x 57) e) in
     let h = leb-true x 57 (and-right (leb 49 x) (leb x 57) e) in (omega arith, omega arith, omega arith)
 
 leading-digit : (x : ℕ) → isLeading x ≡ true → isDigit x ≡ true
-leading-digit x e = let d = leading-of x e in ap isDigit (d .0) ∙ digit-is (valueOf x) (d .1)
+leading-digit x e = let d = leading-of x e in ap isDigit (d .0) ∙ digit-is (digitValue x) (d .1)
 
-value-digit : (x : ℕ) → valueOf (digit x) ≡ x
-unfolding valueOf
+value-digit : (x : ℕ) → digitValue (digit x) ≡ x
+unfolding digitValue
 value-digit x = omega arith
 
 abbrev pub aPart : ℕ → Part
@@ -94,16 +94,16 @@ pub record Spelt (s : List ℕ) (p : Part) : Type 0 where
   pub digits : all isDigit s ≡ true
   pub short : length s ≤ 3
 
-two : (a b : ℕ) (p : Part) → Taken (isLeading a && isDigit b) (valueOf a * 10 + valueOf b) p → Spelt (a ∷ b ∷ []) p
+two : (a b : ℕ) (p : Part) → Taken (isLeading a && isDigit b) (digitValue a * 10 + digitValue b) p → Spelt (a ∷ b ∷ []) p
 two a b p t =
     let l = and-left (isLeading a) (isDigit b) (t .passed) in
     let r = and-right (isLeading a) (isDigit b) (t .passed) in
     let x = leading-of a l in
     let y = digit-of b r in
-    let n : p .number ≡ valueOf a * 10 + valueOf b = ap (λ (q : Part). q .number) (t .is) in
+    let n : p .number ≡ digitValue a * 10 + digitValue b = ap (λ (q : Part). q .number) (t .is) in
     record {
-      text = ap (λ (z : ℕ). z ∷ b ∷ []) (x .0) ∙ ap (λ (z : ℕ). digit (valueOf a) ∷ z ∷ []) (y .0)
-          ∙ sym (spelt-two (valueOf a) (valueOf b) (x .2) (x .1) (y .1)) ∙ ap decimalOf (sym n);
+      text = ap (λ (z : ℕ). z ∷ b ∷ []) (x .0) ∙ ap (λ (z : ℕ). digit (digitValue a) ∷ z ∷ []) (y .0)
+          ∙ sym (spelt-two (digitValue a) (digitValue b) (x .2) (x .1) (y .1)) ∙ ap decimalOf (sym n);
       low = omega (arith, n, t .low);
       digits = and-both (isDigit a) (isDigit b && true) (leading-digit a l) (and-both (isDigit b) true r refl);
       short = omega arith;
@@ -111,7 +111,7 @@ two a b p t =
 
 three :
     (a b c : ℕ) (p : Part) →
-    Taken (isLeading a && isDigit b && isDigit c) (valueOf a * 100 + valueOf b * 10 + valueOf c) p →
+    Taken (isLeading a && isDigit b && isDigit c) (digitValue a * 100 + digitValue b * 10 + digitValue c) p →
     Spelt (a ∷ b ∷ c ∷ []) p
 three a b c p t =
     let f = and-left (isLeading a && isDigit b) (isDigit c) (t .passed) in
@@ -121,30 +121,30 @@ three a b c p t =
     let x = leading-of a l in
     let y = digit-of b r in
     let z = digit-of c m in
-    let n : p .number ≡ valueOf a * 100 + valueOf b * 10 + valueOf c = ap (λ (q : Part). q .number) (t .is) in
+    let n : p .number ≡ digitValue a * 100 + digitValue b * 10 + digitValue c = ap (λ (q : Part). q .number) (t .is) in
     record {
-      text = ap (λ (u : ℕ). u ∷ b ∷ c ∷ []) (x .0) ∙ ap (λ (u : ℕ). digit (valueOf a) ∷ u ∷ c ∷ []) (y .0)
-          ∙ ap (λ (u : ℕ). digit (valueOf a) ∷ digit (valueOf b) ∷ u ∷ []) (z .0)
-          ∙ sym (spelt-three (valueOf a) (valueOf b) (valueOf c) (x .2) (x .1) (y .1) (z .1)) ∙ ap decimalOf (sym n);
+      text = ap (λ (u : ℕ). u ∷ b ∷ c ∷ []) (x .0) ∙ ap (λ (u : ℕ). digit (digitValue a) ∷ u ∷ c ∷ []) (y .0)
+          ∙ ap (λ (u : ℕ). digit (digitValue a) ∷ digit (digitValue b) ∷ u ∷ []) (z .0)
+          ∙ sym (spelt-three (digitValue a) (digitValue b) (digitValue c) (x .2) (x .1) (y .1) (z .1)) ∙ ap decimalOf (sym n);
       low = omega (arith, n, t .low);
       digits = and-both (isDigit a) (isDigit b && (isDigit c && true)) (leading-digit a l)
           (and-both (isDigit b) (isDigit c && true) r (and-both (isDigit c) true m refl));
       short = omega arith;
     }
 
-one : (a : ℕ) (p : Part) → Taken (isDigit a) (valueOf a) p → Spelt (a ∷ []) p
+one : (a : ℕ) (p : Part) → Taken (isDigit a) (digitValue a) p → Spelt (a ∷ []) p
 one a p t =
     let x = digit-of a (t .passed) in
-    let n : p .number ≡ valueOf a = ap (λ (q : Part). q .number) (t .is) in
+    let n : p .number ≡ digitValue a = ap (λ (q : Part). q .number) (t .is) in
     record {
-      text = ap (λ (y : ℕ). y ∷ []) (x .0) ∙ sym (spelt-one (valueOf a) (x .1)) ∙ ap decimalOf (sym n);
+      text = ap (λ (y : ℕ). y ∷ []) (x .0) ∙ sym (spelt-one (digitValue a) (x .1)) ∙ ap decimalOf (sym n);
       low = omega (arith, n, t .low);
       digits = and-both (isDigit a) true (t .passed) refl;
       short = omega arith;
     }
 
-pub sound-spelt : (s : List ℕ) → partOf s .sound ≡ true → Spelt s (partOf s)
-unfolding partOf oneDigit twoDigits threeDigits
+pub sound-spelt : (s : List ℕ) → textPart s .sound ≡ true → Spelt s (textPart s)
+unfolding textPart oneDigit twoDigits threeDigits
 sound-spelt [] e = clash (Spelt [] noPart) false e refl
 sound-spelt (a ∷ []) e = one a (oneDigit a) (taken _ _ e)
 sound-spelt (a ∷ b ∷ []) e = two a b (twoDigits a b) (taken _ _ e)
@@ -177,11 +177,11 @@ three-part x y z l h k m w =
     let e = and-both t (isDigit (digit z)) d (digit-is z m) in
     rw (value-digit x, value-digit y, value-digit z) (part-if-is (t && isDigit (digit z)) (x * 100 + y * 10 + z) e w)
 
-pub spelt-sound : (n : ℕ) → n ≤ 255 → partOf (decimalOf n) ≡ aPart n
-unfolding partOf
+pub spelt-sound : (n : ℕ) → n ≤ 255 → textPart (decimalOf n) ≡ aPart n
+unfolding textPart
 spelt-sound n h = go (ltb n 10) (ltb n 100) refl refl
   where
-    go : (t u : Bool) → ltb n 10 ≡ t → ltb n 100 ≡ u → partOf (decimalOf n) ≡ aPart n
+    go : (t u : Bool) → ltb n 10 ≡ t → ltb n 100 ≡ u → textPart (decimalOf n) ≡ aPart n
     go true u p q =
         let l = ltb-true n 10 p in
         rw (spelt-one n l) (one-part n l)

@@ -6,7 +6,7 @@ use mathlib.Core.List.{List, [], _∷_}
 use lib.ListN.{length}
 use lib.Dec.{leb}
 use Rattle.laws.specs.Lists.{all}
-use Rattle.dotted.specs.Text.{dottedOf, textOf, anAddress}
+use Rattle.dotted.specs.Text.{dottedOf, textOf, dottedAs}
 
 -- the text of four numbers, each at most 255, and of these alone
 pub record Spelled (t address : List ℕ) : Type 0 where
@@ -16,7 +16,7 @@ pub record Spelled (t address : List ℕ) : Type 0 where
 
 pub record DottedExact : Type 0 where
   -- the text of any four numbers 0 to 255 is taken, as these numbers
-  pub accepts : (a b c d : ℕ) → a ≤ 255 → b ≤ 255 → c ≤ 255 → d ≤ 255 → dottedOf (textOf (a ∷ b ∷ c ∷ d ∷ [])) ≡ anAddress a b c d
+  pub accepts : (a b c d : ℕ) → a ≤ 255 → b ≤ 255 → c ≤ 255 → d ≤ 255 → dottedOf (textOf (a ∷ b ∷ c ∷ d ∷ [])) ≡ dottedAs a b c d
   -- no other text is
   pub only : (t : List ℕ) → dottedOf t .sound ≡ true → Spelled t (dottedOf t .address)
   -- an address has one text

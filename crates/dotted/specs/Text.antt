@@ -24,8 +24,8 @@ unfoldable pub isLeading : ℕ → Bool
 isLeading x = leb 49 x && leb x 57
 
 -- "decimal": the number of a digit
-unfoldable pub valueOf : ℕ → ℕ
-valueOf x = x - 48
+unfoldable pub digitValue : ℕ → ℕ
+digitValue x = x - 48
 
 -- a text that is no part
 abbrev pub noPart : Part
@@ -37,23 +37,23 @@ partIf digits n = cond (digits && leb n 255) (record { sound = true; number = n 
 
 -- one digit, '0' too
 unfoldable pub oneDigit : ℕ → Part
-oneDigit a = partIf (isDigit a) (valueOf a)
+oneDigit a = partIf (isDigit a) (digitValue a)
 
 -- two digits, the first not '0'
 unfoldable pub twoDigits : ℕ → ℕ → Part
-twoDigits a b = partIf (isLeading a && isDigit b) (valueOf a * 10 + valueOf b)
+twoDigits a b = partIf (isLeading a && isDigit b) (digitValue a * 10 + digitValue b)
 
 -- three digits, the first not '0'
 unfoldable pub threeDigits : ℕ → ℕ → ℕ → Part
-threeDigits a b c = partIf (isLeading a && isDigit b && isDigit c) (valueOf a * 100 + valueOf b * 10 + valueOf c)
+threeDigits a b c = partIf (isLeading a && isDigit b && isDigit c) (digitValue a * 100 + digitValue b * 10 + digitValue c)
 
 -- "each part 0 to 255 without leading zeros": a text of no digit, or of more than three, is no part
-unfoldable pub partOf : List ℕ → Part
-partOf [] = noPart
-partOf (a ∷ []) = oneDigit a
-partOf (a ∷ b ∷ []) = twoDigits a b
-partOf (a ∷ b ∷ c ∷ []) = threeDigits a b c
-partOf (a ∷ b ∷ c ∷ d ∷ s) = noPart
+unfoldable pub textPart : List ℕ → Part
+textPart [] = noPart
+textPart (a ∷ []) = oneDigit a
+textPart (a ∷ b ∷ []) = twoDigits a b
+textPart (a ∷ b ∷ c ∷ []) = threeDigits a b c
+textPart (a ∷ b ∷ c ∷ d ∷ s) = noPart
 
 -- a byte in front of the first field
 unfoldable pub onto : ℕ → List (List ℕ) → List (List ℕ)
@@ -61,35 +61,35 @@ onto x [] = (x ∷ []) ∷ []
 onto x (f ∷ fs) = (x ∷ f) ∷ fs
 
 -- "dotted": what stands before, between and behind the dots
-unfoldable pub fieldsOf : List ℕ → List (List ℕ)
-fieldsOf [] = [] ∷ []
-fieldsOf (x ∷ t) = cond (isDot x) ([] ∷ fieldsOf t) (onto x (fieldsOf t))
+unfoldable pub textFields : List ℕ → List (List ℕ)
+textFields [] = [] ∷ []
+textFields (x ∷ t) = cond (isDot x) ([] ∷ textFields t) (onto x (textFields t))
 
 -- "IPv4 address": a text that is none gives zeros
-abbrev pub noAddress : Dotted
-noAddress = record { sound = false; address = 0 ∷ 0 ∷ 0 ∷ 0 ∷ [] }
+abbrev pub notDotted : Dotted
+notDotted = record { sound = false; address = 0 ∷ 0 ∷ 0 ∷ 0 ∷ [] }
 
 -- "IPv4 address": its four numbers in the order of the text
-abbrev pub anAddress : ℕ → ℕ → ℕ → ℕ → Dotted
-anAddress a b c d = record { sound = true; address = a ∷ b ∷ c ∷ d ∷ [] }
+abbrev pub dottedAs : ℕ → ℕ → ℕ → ℕ → Dotted
+dottedAs a b c d = record { sound = true; address = a ∷ b ∷ c ∷ d ∷ [] }
 
 -- "each part": all four
-unfoldable pub addressOf : Part → Part → Part → Part → Dotted
-addressOf a b c d =
-    cond (a .sound && b .sound && c .sound && d .sound) (anAddress (a .number) (b .number) (c .number) (d .number)) noAddress
+unfoldable pub fourParts : Part → Part → Part → Part → Dotted
+fourParts a b c d =
+    cond (a .sound && b .sound && c .sound && d .sound) (dottedAs (a .number) (b .number) (c .number) (d .number)) notDotted
 
 -- "IPv4 address": four parts, neither fewer nor more
 unfoldable pub ofParts : List Part → Dotted
-ofParts [] = noAddress
-ofParts (a ∷ []) = noAddress
-ofParts (a ∷ b ∷ []) = noAddress
-ofParts (a ∷ b ∷ c ∷ []) = noAddress
-ofParts (a ∷ b ∷ c ∷ d ∷ []) = addressOf a b c d
-ofParts (a ∷ b ∷ c ∷ d ∷ e ∷ ps) = noAddress
+ofParts [] = notDotted
+ofParts (a ∷ []) = notDotted
+ofParts (a ∷ b ∷ []) = notDotted
+ofParts (a ∷ b ∷ c ∷ []) = notDotted
+ofParts (a ∷ b ∷ c ∷ d ∷ []) = fourParts a b c d
+ofParts (a ∷ b ∷ c ∷ d ∷ e ∷ ps) = notDotted
 
 -- the parts of a text, sound or not
 unfoldable pub partsOf : List ℕ → List Part
-partsOf t = map partOf (fieldsOf t)
+partsOf t = map textPart (textFields t)
 
 -- "IPv4 address in dotted decimal, each part 0 to 255 without leading zeros"
 unfoldable pub dottedOf : List ℕ → Dotted

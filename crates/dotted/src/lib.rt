@@ -4,8 +4,8 @@ ghost use mathlib.Core.List.{_∷_};
 ghost use Prim.Native.Nat.{_≤_};
 ghost use lib.ListN.{length};
 ghost use Rattle.laws.specs.Lists.{index};
-ghost use Rattle.dotted.specs.Text.{isDot, isDigit, isLeading, valueOf, partIf, oneDigit, twoDigits, threeDigits};
-ghost use Rattle.dotted.specs.Text.{partOf, noAddress, addressOf, partsOf, ofParts, dottedOf};
+ghost use Rattle.dotted.specs.Text.{isDot, isDigit, isLeading, digitValue, partIf, oneDigit, twoDigits, threeDigits};
+ghost use Rattle.dotted.specs.Text.{textPart, notDotted, fourParts, partsOf, ofParts, dottedOf};
 ghost use Rattle.dotted.specs.Exact.{DottedExact};
 ghost use Rattle.dotted.specs.Table.{TextsTold};
 
@@ -46,7 +46,7 @@ fn is_leading(x: u8) -> bool
 
 // 0 for a byte below the digits, so that no caller has to ask first.
 fn value(x: u8) -> u16
-    ensures { λ r. ⌜ r ≡ valueOf x ⌝ }
+    ensures { λ r. ⌜ r ≡ digitValue x ⌝ }
 {
     if x < ZERO {
         return 0;
@@ -91,7 +91,7 @@ fn three_digits(a: u8, b: u8, c: u8) -> Part
 }
 
 fn part_of(s: &[u8]) -> Part
-    ensures { λ r. ⌜ r ≡ partOf (now (s .entry)) ⌝ }
+    ensures { λ r. ⌜ r ≡ textPart (now (s .entry)) ⌝ }
 {
     if s.len() == 1 {
         return one_digit(s[0]);
@@ -123,7 +123,7 @@ fn first_dot(s: &[u8]) -> usize
 }
 
 fn no_address() -> Dotted
-    ensures { λ r. ⌜ r ≡ noAddress ⌝ }
+    ensures { λ r. ⌜ r ≡ notDotted ⌝ }
 {
     Dotted {
         sound: false,
@@ -132,7 +132,7 @@ fn no_address() -> Dotted
 }
 
 fn address(a: Part, b: Part, c: Part, d: Part) -> Dotted
-    ensures { λ r. ⌜ r ≡ addressOf a b c d ⌝ }
+    ensures { λ r. ⌜ r ≡ fourParts a b c d ⌝ }
 {
     if a.sound & b.sound & c.sound & d.sound {
         return Dotted {

@@ -1,4 +1,4 @@
-// The C boundary: every call of the endpoint, the reader and the writer, with numbers, slices and structs by value.
+// The C boundary: every call of the endpoint, the datagram's, the reader's and the writer's, with numbers, slices and structs by value.
 use endpoint::Record;
 ghost use mathlib.Core.Path.{_≡_};
 ghost use Rattle.endpoint.specs.State.{freshState};
@@ -171,7 +171,8 @@ pub extern "C" fn melorwyth_take(state: Record, output: &mut [u8]) -> Taken
 
 #[no_mangle]
 pub extern "C" fn melorwyth_datagram(state: Record, area: &mut [u8], datagram: &[u8]) -> Reset
-    ensures { λ r. ⌜ (r ≡ resetOf (datagramCall state (now (area .entry)) (now (datagram .entry)))) × (now (area .exit) ≡ datagramCall state (now (area .entry)) (now (datagram .entry)) .area) ⌝ }
+    ensures { λ r. ⌜ (r ≡ resetOf (datagramCall state (now (area .entry)) (now (datagram .entry))))
+        × (now (area .exit) ≡ datagramCall state (now (area .entry)) (now (datagram .entry)) .area) ⌝ }
 {
     let done = reset::datagram(state, area, datagram);
     let next = done.state;

@@ -15,7 +15,7 @@ use Rattle.octets.specs.Zeros.{zeros, allZero}
 use Rattle.octets.proofs.Scans.{zeros-of-all}
 use Rattle.octets.specs.Same.{sameBytes}
 use Rattle.octets.proofs.Sames.{same-are, same-refl}
-use Rattle.dotted.specs.Text.{dottedOf, textOf, anAddress}
+use Rattle.dotted.specs.Text.{dottedOf, textOf, dottedAs}
 use Rattle.dotted.proofs.Exacts.{dotted-exact}
 use Rattle.mechanism.specs.State.{noAddress, disarmed, withKey}
 use Rattle.mechanism.specs.Arguments.{textIn, portIn, isMulticast, isGroup, isTextTaken, addressOf, isUntaken, armedBy}
@@ -96,7 +96,7 @@ addresses a b c d ha hb hc hd e = go (or-cases (allZero address) (isMulticast ad
     address : List ℕ
     address = a ∷ b ∷ c ∷ d ∷ []
 
-    read : dottedOf (textOf (a ∷ b ∷ c ∷ d ∷ [])) ≡ anAddress a b c d
+    read : dottedOf (textOf (a ∷ b ∷ c ∷ d ∷ [])) ≡ dottedAs a b c d
     read = dotted-exact .accepts a b c d ha hb hc hd
 
     some : eqb (length (textOf (a ∷ b ∷ c ∷ d ∷ []))) 0 ≡ false

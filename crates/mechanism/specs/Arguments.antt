@@ -16,6 +16,7 @@ use Rattle.mechanism.specs.declared.Arming.{Arming}
 abbrev pub textStart : ℕ
 textStart = 18
 
+-- "a 2-byte text length"
 abbrev pub textLength : List ℕ → ℕ
 textLength part = be16At part keyBytes
 
@@ -41,6 +42,7 @@ isMulticast address = leb 224 (getD address 0 0) && leb (getD address 0 0) 239
 unfoldable pub isGroup : Dotted → Bool
 isGroup d = d .sound && isMulticast (d .address)
 
+-- a text that 3.14 takes
 unfoldable pub isTextTaken : List ℕ → Bool
 isTextTaken text = eqb (length text) 0 || isGroup (dottedOf text)
 

@@ -10,5 +10,6 @@ use Rattle.mechanism.specs.declared.Mechanism.{Mechanism}
 abbrev pub sentinel : List ℕ
 sentinel = 0xDE ∷ 0xAF ∷ 0xDA ∷ 0xDA ∷ 0xCA ∷ 0xFE ∷ 0xBA ∷ 0xBE ∷ []
 
+-- "resets if the mechanism is armed and the key matches"
 unfoldable pub resets : Mechanism → List ℕ → Bool
 resets m datagram = m .armed && sameBytes datagram (sentinel ++ m .key)

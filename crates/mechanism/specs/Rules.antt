@@ -12,6 +12,7 @@ use Rattle.mechanism.specs.declared.Mechanism.{Mechanism}
 unfoldable pub isAddressTaken : List ℕ → Bool
 isAddressTaken address = allZero address || isMulticast address
 
+-- "1 .. when armed with an address or port that 3.14 would not take, or disarmed with key, address or port not zero", the other way round
 unfoldable pub mechanismObeys : Mechanism → Bool
 mechanismObeys m =
     cond (m .armed)

@@ -13,9 +13,11 @@ keyBytes = 16
 abbrev pub addressBytes : ℕ
 addressBytes = 4
 
+-- "zeros for no text"
 abbrev pub noAddress : List ℕ
 noAddress = replicate addressBytes 0
 
+-- "all zero while disarmed"
 abbrev pub disarmed : Mechanism
 disarmed = record { armed = false; key = replicate keyBytes 0; address = noAddress; port = 0 }
 

@@ -91,7 +91,7 @@ fn address_of(none: bool, read: Dotted) -> [u8; 4]
 }
 
 // The mechanism that the arguments arm, if the text and the port are taken.
-pub fn armed_by(part: &[u8]) -> Arming
+pub fn arming_of(part: &[u8]) -> Arming
     requires { ⌜ isMisfit (now part) ≡ false ⌝ }
     ensures { λ r. ⌜ r ≡ armingOf (now (part .entry)) ⌝ }
 {
@@ -155,14 +155,14 @@ impl Mechanism {
     {
         let key = self.key;
         let address = self.address;
-        let port = self.port == 0;
+        let no_port = self.port == 0;
         let none = is_none(address);
         if self.armed {
             let multicast = is_multicast(address);
-            return (none | multicast) & !port;
+            return (none | multicast) & !no_port;
         }
         let blank = is_blank(key);
-        blank & none & port
+        blank & none & no_port
     }
 
     // The datagram is the sentinel and the key of a mechanism that is armed.

@@ -84,7 +84,8 @@ isMuteValue v = eqb v muted || eqb v unmuted
 -- "7 mode not 1, or mute not 1 or 2"; document 02 (ii), "then 7 for the text or port 0"
 unfoldable pub isValueBad : ℕ → List ℕ → Bool
 isValueBad m part =
-    (eqb m addMethod && not (eqb (getD part 20 0) 1)) || (eqb m setMethod && not (isMuteValue (getD part 0 0))) || (eqb m resetKeyMethod && isUntaken part)
+    (eqb m addMethod && not (eqb (getD part 20 0) 1)) || (eqb m setMethod && not (isMuteValue (getD part 0 0)))
+    || (eqb m resetKeyMethod && isUntaken part)
 
 -- the first that applies of those that need no device; 0 where none does
 unfoldable pub firstStatus : ℕ → ℕ → ℕ → List ℕ → ℕ

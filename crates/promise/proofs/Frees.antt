@@ -64,7 +64,7 @@ use Rattle.promise.specs.Stream.{runOf, machine}
 use Rattle.promise.specs.Technician.{lockStatus}
 use Rattle.promise.specs.Reset.{asksWith, asksOver, asksIn, asksFor, nobodyAsks, aReset, RackFreeAgain}
 use Rattle.promise.proofs.Keeps.{stream-theorem}
-use Rattle.promise.proofs.Resets.{leaves}
+use Rattle.promise.proofs.Resets.{leaves, anew}
 use Rattle.promise.proofs.Technicians.{locked-out}
 
 -- ---- a holder at a place
@@ -259,11 +259,18 @@ lock-holder d k at l h e s = go (isOther (getD (d .holders) at 0) k) refl
         ap (λ (x : Ran). getD (x .device .holders) at 0) (sym (lock-done d k at e (isOther (getD (d .holders) at 0) k) refl q (k + 1) (rw (lt-ltb k 8 l)) (toldOf []) refl))
         ∙ getD-set-same (d .holders) at (k + 1) 0 h
 
+first-asks : (r : Record) (area g : List ℕ) (cs : List (Call Ask (List ℕ))) → datagramCall r area g .answer ≡ aReset → AllBytes cs → (k at : ℕ) → at < 8
+    → nobodyAsks at (glue shut none-held (machine (freshOf (r .device .reading)) none-held cs .1) .0) ≡ true
+    → lockStatus (runOf r area (ask (datagram g) ∷ cs) .0 .0 .device) k at ≡ 0
+first-asks r area g cs e b k at h a =
+    free-locks _ k at h
+    (ap (λ (x : (Record × List ℕ) × List Outcome). getD (x .0 .0 .device .holders) at 0) (anew r area g cs e) ∙ calls-free (r .device .reading) cs b at a)
+
 pub rack-free-again : RackFreeAgain
 rack-free-again =
     record {
       unheld = unheld;
       free = λ r area g a k at h. free-locks (datagramCall r area g .state .device) k at h (unheld r area g a at);
-      first = λ reading cs b k at h a. free-locks _ k at h (calls-free reading cs b at a);
-      holds = λ d k j at l h e s n. locked-out _ k j at n (omega arith) (lock-holder d k at l h (omega arith) s);
+      first = first-asks;
+      holds = λ d k j at l h e s n. locked-out _ k j at n h (lock-holder d k at l (omega arith) h s);
     }

@@ -53,7 +53,7 @@ use Rattle.endpoint.specs.declared.Record.{Record}
 use Rattle.promise.specs.Rules as ruling
 use Rattle.promise.specs.Rules.{Ask, opening, closing, ticking, taking, datagram, Asked, Given, messageBy, openBy, closeBy, takeBy, resetBy, rule, shut, callOf}
 use Rattle.promise.specs.Stream.{runOf, machine, GoodState}
-use Rattle.promise.specs.Key.{isArming, keyedBy, keyedWith, keyedOver, keyedIn, keyedMessage, latest, latestOver, LatestKeyCounts, rekeyed, AlikeButKey, Seen, seen, isDatagram, noDatagram, KeyStaysInside}
+use Rattle.promise.specs.Key.{isArming, keyedBy, keyedWith, keyedOver, keyedIn, keyedMessage, latest, latestOver, LatestKeyCounts, rekeyed, AlikeButKey, Seen, seen, isNoReset, noReset, KeyStaysInside}
 use Rattle.promise.proofs.Frames.{arming, close-frame, open-frame, tick-frame, run-frame, sound-frame}
 use Rattle.promise.proofs.Keeps.{stream-theorem}
 
@@ -259,8 +259,18 @@ module _ (d : Device) (held : List ℕ) (a b : Mechanism) (w : Alike a b) where
       (same-as (2 ∷ []) area out))
       (same-as (1 ∷ []) area out))
 
-  call-follows : (area : List ℕ) (c : Call Ask (List ℕ)) → isDatagram c ≡ false → Follows (callOf (holding d held a) area c) (callOf (holding d held b) area c)
-  unfolding callOf isDatagram
+  datagram-follows : (area g : List ℕ) → (not (resets a g) && not (resets b g)) ≡ true → Follows (datagramCall (holding d held a) area g) (datagramCall (holding d held b) area g)
+  unfolding datagramCall
+  datagram-follows area g e =
+      let x = not-true (resets a g) (and-left (not (resets a g)) _ e) in
+      let y = not-true (resets b g) (and-right (not (resets a g)) _ e) in
+      rw (obeys-alike, x, y)
+      (follow-cond (recordObeys (holding d held b)) _ _ _ _
+      (follow-cond (areaSound held area) _ _ _ _ (same-as (0 ∷ 0 ∷ []) area []) (same-as (2 ∷ []) area []))
+      (same-as (1 ∷ []) area []))
+
+  call-follows : (area : List ℕ) (c : Call Ask (List ℕ)) → isNoReset (holding d held a) (holding d held b) c ≡ true → Follows (callOf (holding d held a) area c) (callOf (holding d held b) area c)
+  unfolding callOf isNoReset
   call-follows area (deliver n piece out) e = deliver-follows area n piece out
   call-follows area (ask opening) e = within open-follows area
     where
@@ -272,15 +282,7 @@ module _ (d : Device) (held : List ℕ) (a b : Mechanism) (w : Alike a b) where
     where
       within : {o p : Outcome} → Follows o p → (x : List ℕ) → Follows (outcome (o .answer) (o .state) x (o .output)) (outcome (p .answer) (p .state) x (p .output))
       within f x = record { shown = ap (λ (s : Seen). record { answer = s .answer; area = x; output = s .output }) (f .shown); kept = f .kept }
-  call-follows area (ask (datagram g)) e = clash _ true refl e
-
-  guess-seen : (area g : List ℕ) → resets a g ≡ false → resets b g ≡ false → Follows (datagramCall (holding d held a) area g) (datagramCall (holding d held b) area g)
-  unfolding datagramCall
-  guess-seen area g x y =
-      rw (obeys-alike, x, y)
-      (follow-cond (recordObeys (holding d held b)) _ _ _ _
-      (follow-cond (areaSound held area) _ _ _ _ (same-as (0 ∷ 0 ∷ []) area []) (same-as (2 ∷ []) area []))
-      (same-as (1 ∷ []) area []))
+  call-follows area (ask (datagram g)) e = datagram-follows area g e
 
 -- from two records that are alike but for their keys
 alike-parts : (r s : Record) → AlikeButKey r s → Alike (r .device .mechanism) (s .device .mechanism)
@@ -289,34 +291,26 @@ alike-parts r s w = record { armed = w .armed; same = ap (λ (x : Record). x .de
 as-holding : (r s : Record) → AlikeButKey r s → holding (r .device) (r .held) (s .device .mechanism) ≡ s
 as-holding r s w = ap (holding (r .device) (r .held)) (alike-parts r s w .same) ∙ sym (w .alike)
 
-call-inside : (r s : Record) (area : List ℕ) (c : Call Ask (List ℕ)) → AlikeButKey r s → isDatagram c ≡ false → Follows (callOf r area c) (callOf s area c)
+call-inside : (r s : Record) (area : List ℕ) (c : Call Ask (List ℕ)) → AlikeButKey r s → isNoReset r s c ≡ true → Follows (callOf r area c) (callOf s area c)
 call-inside r s area c w e =
-    rw (as-holding r s w) at (call-follows (r .device) (r .held) (r .device .mechanism) (s .device .mechanism) (alike-parts r s w) area c e)
+    let q = as-holding r s w in
+    let f : isNoReset r (holding (r .device) (r .held) (s .device .mechanism)) c ≡ true = ap (λ (x : Record). isNoReset r x c) q ∙ e in
+    rw q at (call-follows (r .device) (r .held) (r .device .mechanism) (s .device .mechanism) (alike-parts r s w) area c f)
 
-inside : (cs : List (Call Ask (List ℕ))) (r s : Record) (x y : List ℕ) → x ≡ y → AlikeButKey r s → noDatagram cs ≡ true
+inside : (cs : List (Call Ask (List ℕ))) (r s : Record) (x y : List ℕ) → x ≡ y → AlikeButKey r s → noReset r x s y cs ≡ true
     → (map seen (runOf r x cs .1) ≡ map seen (runOf s y cs .1)) × AlikeButKey (runOf r x cs .0 .0) (runOf s y cs .0 .0)
-unfolding runOf noDatagram
+unfolding runOf noReset
 inside [] r s x y q w e = (refl, w)
 inside (c ∷ cs) r s x y q w e =
-    let n = not-true (isDatagram c) (and-left (not (isDatagram c)) _ e) in
-    let f = subst (λ (u : List ℕ). Follows (callOf r x c) (callOf s u c)) q (call-inside r s x c w n) in
+    let f = subst (λ (u : List ℕ). Follows (callOf r x c) (callOf s u c)) q (call-inside r s x c w (and-left (isNoReset r s c) _ e)) in
     let o = callOf r x c in
     let p = callOf s y c in
-    let t = inside cs (o .state) (p .state) (o .area) (p .area) (ap (λ (v : Seen). v .area) (f .shown)) (f .kept) (and-right (not (isDatagram c)) _ e) in
+    let t = inside cs (o .state) (p .state) (o .area) (p .area) (ap (λ (v : Seen). v .area) (f .shown)) (f .kept) (and-right (isNoReset r s c) _ e) in
     (ap (λ (v : Seen). v ∷ map seen (runOf (o .state) (o .area) cs .1)) (f .shown) ∙ ap (λ (l : List Seen). seen p ∷ l) (t .0), t .1)
-
-guessed : (r s : Record) (area g : List ℕ) → AlikeButKey r s → resets (r .device .mechanism) g ≡ false → resets (s .device .mechanism) g ≡ false
-    → seen (callOf r area (ask (datagram g))) ≡ seen (callOf s area (ask (datagram g)))
-unfolding callOf
-guessed r s area g w x y =
-    let f : Follows (datagramCall r area g) (datagramCall s area g) =
-    rw (as-holding r s w) at (guess-seen (r .device) (r .held) (r .device .mechanism) (s .device .mechanism) (alike-parts r s w) area g x y) in
-    f .shown
 
 pub key-stays-inside : KeyStaysInside
 key-stays-inside =
     record {
       call = λ r s area c w e. (call-inside r s area c w e .shown, call-inside r s area c w e .kept);
       calls = λ r s area cs w e. inside cs r s area area refl w e;
-      guess = guessed;
     }

@@ -128,7 +128,7 @@ once reading area g a =
     let k : freshState reading .device .mechanism .armed ≡ false = ap (λ (m : Mechanism). m .armed) (disarms reading) in
     clash ⊥ (freshState reading .device .mechanism .armed) armed k
 
-anew : (r : Record) (area g : List ℕ) (cs : List (Call Ask (List ℕ))) → datagramCall r area g .answer ≡ aReset
+pub anew : (r : Record) (area g : List ℕ) (cs : List (Call Ask (List ℕ))) → datagramCall r area g .answer ≡ aReset
     → runOf r area (ask (datagram g) ∷ cs)
     ≡ (runOf (freshState (r .device .reading)) (zeros areaBytes) cs .0, restarted r ∷ runOf (freshState (r .device .reading)) (zeros areaBytes) cs .1)
 unfolding runOf callOf restarted
@@ -149,9 +149,9 @@ reset-by-key =
       disarms = disarms;
       once = once;
       otherwise = stays;
-      first = bad;
-      second = spoilt;
-      third = nothing;
+      refusedRecord = bad;
+      refusedArea = spoilt;
+      nothing = nothing;
       anew = anew;
       nobody = nobody;
       shutAll = fresh-shut;

@@ -53,7 +53,8 @@ keyedWith k c part = keyedBy k (c .target) (methodNumber (c .method .level) (c .
 unfoldable pub keyedOver : ℕ → Mechanism → ℕ → List ℕ → Mechanism
 keyedOver zero k kind t = k
 keyedOver (suc j) k kind t =
-    keyedOver j (keyedWith k (commandOf (take (entrySize kind t) t)) (parametersOf kind (take (entrySize kind t) t))) kind (drop (entrySize kind t) t)
+    keyedOver j (keyedWith k (commandOf (take (entrySize kind t) t)) (parametersOf kind (take (entrySize kind t) t))) kind
+    (drop (entrySize kind t) t)
 
 -- after a sound message: commands alone touch it
 unfoldable pub keyedIn : Mechanism → List ℕ → Mechanism
@@ -89,7 +90,8 @@ pub record LatestKeyCounts : Type 0 where
   pub whole : (d : Device) (w : Asked) → rule d w .0 .mechanism ≡ latest (d .mechanism) w
   -- any list of calls, from any state that keeps the rules: the mechanism is that of the whole calls, one after another
   pub calls : (d : Device) (h : Held) (cs : List (Call Ask (List ℕ))) → GoodState d h → AllBytes cs
-      → runOf (stateOf d (counted h 8)) (flat h 8) cs .0 .0 .device .mechanism ≡ latestOver (d .mechanism) (glue shut h (machine d h cs .1) .0)
+      → runOf (stateOf d (counted h 8)) (flat h 8) cs .0 .0 .device .mechanism
+      ≡ latestOver (d .mechanism) (glue shut h (machine d h cs .1) .0)
 
 -- ---- the key stays inside
 
@@ -111,25 +113,25 @@ pub record Seen : Type 0 where
 abbrev pub seen : Outcome → Seen
 seen o = record { answer = o .answer; area = o .area; output = o .output }
 
-unfoldable pub isDatagram : Call Ask (List ℕ) → Bool
-isDatagram (deliver n piece out) = false
-isDatagram (ask opening) = false
-isDatagram (ask (closing n)) = false
-isDatagram (ask (ticking reading)) = false
-isDatagram (ask (taking out)) = false
-isDatagram (ask (datagram g)) = true
+-- neither record is reset by the call: it is no datagram, or one that is neither's key
+unfoldable pub isNoReset : Record → Record → Call Ask (List ℕ) → Bool
+isNoReset r s (deliver n piece out) = true
+isNoReset r s (ask opening) = true
+isNoReset r s (ask (closing n)) = true
+isNoReset r s (ask (ticking reading)) = true
+isNoReset r s (ask (taking out)) = true
+isNoReset r s (ask (datagram g)) = not (resets (r .device .mechanism) g) && not (resets (s .device .mechanism) g)
 
-unfoldable pub noDatagram : List (Call Ask (List ℕ)) → Bool
-noDatagram [] = true
-noDatagram (c ∷ cs) = not (isDatagram c) && noDatagram cs
+-- nor by any of these calls, made on each record and its area
+unfoldable pub noReset : Record → List ℕ → Record → List ℕ → List (Call Ask (List ℕ)) → Bool
+noReset r x s y [] = true
+noReset r x s y (c ∷ cs) =
+    isNoReset r s c && noReset (callOf r x c .state) (callOf r x c .area) (callOf s y c .state) (callOf s y c .area) cs
 
 pub record KeyStaysInside : Type 0 where
-  -- every call but the datagram, an arming too: nothing that is seen tells the keys apart, and the records are again alike but for them
-  pub call : (r s : Record) (area : List ℕ) (c : Call Ask (List ℕ)) → AlikeButKey r s → isDatagram c ≡ false
+  -- every call, an arming and a wrong datagram too: nothing that is seen tells the keys apart, and the records are again alike but for them
+  pub call : (r s : Record) (area : List ℕ) (c : Call Ask (List ℕ)) → AlikeButKey r s → isNoReset r s c ≡ true
       → (seen (callOf r area c) ≡ seen (callOf s area c)) × AlikeButKey (callOf r area c .state) (callOf s area c .state)
-  -- so for any list of them
-  pub calls : (r s : Record) (area : List ℕ) (cs : List (Call Ask (List ℕ))) → AlikeButKey r s → noDatagram cs ≡ true
+  -- so for any list of calls, wrong guesses of the key among them: until a reset comes, nothing tells which of the two keys it is
+  pub calls : (r s : Record) (area : List ℕ) (cs : List (Call Ask (List ℕ))) → AlikeButKey r s → noReset r area s area cs ≡ true
       → (map seen (runOf r area cs .1) ≡ map seen (runOf s area cs .1)) × AlikeButKey (runOf r area cs .0 .0) (runOf s area cs .0 .0)
-  -- and of a datagram nothing is seen but whether it was the key
-  pub guess : (r s : Record) (area g : List ℕ) → AlikeButKey r s → resets (r .device .mechanism) g ≡ false → resets (s .device .mechanism) g ≡ false
-      → seen (callOf r area (ask (datagram g))) ≡ seen (callOf s area (ask (datagram g)))

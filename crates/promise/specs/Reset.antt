@@ -50,7 +50,8 @@ pub record ResetByKey : Type 0 where
   pub resets : (r : Record) (area g : List ℕ) → Matches r area g → datagramCall r area g .answer ≡ aReset
   pub only : (r : Record) (area g : List ℕ) → datagramCall r area g .answer ≡ aReset → Matches r area g
   -- "A datagram of exactly 24 bytes"
-  pub long : (r : Record) (area g : List ℕ) → length (r .device .mechanism .key) ≡ keyBytes → datagramCall r area g .answer ≡ aReset → length g ≡ 24
+  pub long : (r : Record) (area g : List ℕ) → length (r .device .mechanism .key) ≡ keyBytes → datagramCall r area g .answer ≡ aReset
+      → length g ≡ 24
   -- "After the reset the record is a fresh one at the last reading, the area zero and the mechanism disarmed"
   pub leaves : (r : Record) (area g : List ℕ) → datagramCall r area g .answer ≡ aReset
       → (datagramCall r area g .state ≡ freshState (r .device .reading)) × (datagramCall r area g .area ≡ zeros areaBytes)
@@ -61,14 +62,18 @@ pub record ResetByKey : Type 0 where
   pub otherwise : (r : Record) (area g : List ℕ) → (datagramCall r area g .answer ≡ aReset → ⊥)
       → (datagramCall r area g .state ≡ r) × (datagramCall r area g .area ≡ area)
   -- "the datagram call gives 1 and 2 alone"
-  pub first : (r : Record) (area g : List ℕ) → recordObeys r ≡ false → datagramCall r area g ≡ refused badRecord r area []
-  pub second : (r : Record) (area g : List ℕ) → recordObeys r ≡ true → areaSound (r .held) area ≡ false → datagramCall r area g ≡ refused badArea r area []
-  pub third : (r : Record) (area g : List ℕ) → recordObeys r ≡ true → areaSound (r .held) area ≡ true → (datagramCall r area g .answer ≡ aReset → ⊥)
-      → datagramCall r area g ≡ outcome (0 ∷ 0 ∷ []) r area []
+  pub refusedRecord : (r : Record) (area g : List ℕ) → recordObeys r ≡ false → datagramCall r area g ≡ refused badRecord r area []
+  pub refusedArea : (r : Record) (area g : List ℕ) → recordObeys r ≡ true → areaSound (r .held) area ≡ false
+      → datagramCall r area g ≡ refused badArea r area []
+  pub nothing : (r : Record) (area g : List ℕ) → recordObeys r ≡ true → areaSound (r .held) area ≡ true
+      → (datagramCall r area g .answer ≡ aReset → ⊥) → datagramCall r area g ≡ outcome (0 ∷ 0 ∷ []) r area []
   -- "demand 3 counts anew from there": what follows a reset is what follows a fresh record and a zeroed area
   pub anew : (r : Record) (area g : List ℕ) (cs : List (Call Ask (List ℕ))) → datagramCall r area g .answer ≡ aReset
       → runOf r area (ask (datagram g) ∷ cs)
-      ≡ (runOf (freshState (r .device .reading)) (zeros areaBytes) cs .0, restarted r ∷ runOf (freshState (r .device .reading)) (zeros areaBytes) cs .1)
+      ≡ (
+        runOf (freshState (r .device .reading)) (zeros areaBytes) cs .0,
+        restarted r ∷ runOf (freshState (r .device .reading)) (zeros areaBytes) cs .1,
+      )
   -- over whole messages too: no undecided byte is held, and no connection is open
   pub nobody : (d : Device) (h : Held) (g : List ℕ) → mechanism.resets (d .mechanism) g ≡ true
       → step rule open? admit d h (ask (datagram g)) .0 ≡ (freshOf (d .reading), none-held)
@@ -102,13 +107,15 @@ nobodyAsks at (w ∷ ws) = not (asksFor at w) && nobodyAsks at ws
 -- "can he restart a rack from his chair?": after a reset
 pub record RackFreeAgain : Type 0 where
   -- no channel is held, and whoever then asks for a channel's lock gets it
-  pub unheld : (r : Record) (area g : List ℕ) → datagramCall r area g .answer ≡ aReset → (at : ℕ) → getD (datagramCall r area g .state .device .holders) at 0 ≡ 0
+  pub unheld : (r : Record) (area g : List ℕ) → datagramCall r area g .answer ≡ aReset → (at : ℕ)
+      → getD (datagramCall r area g .state .device .holders) at 0 ≡ 0
   pub free : (r : Record) (area g : List ℕ) → datagramCall r area g .answer ≡ aReset → (k at : ℕ) → at < muteCount
       → lockStatus (datagramCall r area g .state .device) k at ≡ 0
   -- whatever calls come after it, as long as no message asks for a channel, the first to ask for it gets it
-  pub first : (reading : ℕ) (cs : List (Call Ask (List ℕ))) → AllBytes cs → (k at : ℕ) → at < muteCount
-      → nobodyAsks at (glue shut none-held (machine (freshOf reading) none-held cs .1) .0) ≡ true
-      → lockStatus (runOf (freshState reading) (zeros areaBytes) cs .0 .0 .device) k at ≡ 0
+  pub first : (r : Record) (area g : List ℕ) (cs : List (Call Ask (List ℕ))) → datagramCall r area g .answer ≡ aReset → AllBytes cs
+      → (k at : ℕ) → at < muteCount
+      → nobodyAsks at (glue shut none-held (machine (freshOf (r .device .reading)) none-held cs .1) .0) ≡ true
+      → lockStatus (runOf r area (ask (datagram g) ∷ cs) .0 .0 .device) k at ≡ 0
   -- he then holds it, and another gets status 3
-  pub holds : (d : Device) (k j at : ℕ) → k < connectionCount → at < length (d .holders) → length (d .holders) ≡ muteCount
-      → lockStatus d k at ≡ 0 → eqb j k ≡ false → lockStatus (commands.runOf d k (firstMute + at) lockMethod 0 [] .device) j at ≡ 3
+  pub holds : (d : Device) (k j at : ℕ) → k < connectionCount → at < muteCount → length (d .holders) ≡ muteCount → lockStatus d k at ≡ 0
+      → eqb j k ≡ false → lockStatus (commands.runOf d k (firstMute + at) lockMethod 0 [] .device) j at ≡ 3

@@ -55,6 +55,10 @@ textShort = 50 ∷ 51 ∷ 57 ∷ 46 ∷ 49 ∷ 46 ∷ 49 ∷ []
 abbrev pub armedWith : List ℕ → List ℕ → Device
 armedWith key text = afterMessage (twoOpen 5000) 0 (setKey deviceManager 2 (arguments key (length text) text 50000))
 
+-- and then by connection 1 with another key
+abbrev pub armedAgain : Device
+armedAgain = afterMessage (armedWith keyA []) 1 (setKey deviceManager 2 (arguments keyB 0 [] 50000))
+
 abbrev pub mechanismOf : Device → List ℕ
 mechanismOf d = d .mechanism .key ++ (d .mechanism .address ++ (d .mechanism .port ∷ []))
 
@@ -65,25 +69,25 @@ abbrev pub afterDatagram : Device → List ℕ → Device
 afterDatagram d g = rule d (asked (datagram g)) .0
 
 -- the reply to a 3.14 with status 0, and with another
-abbrev pub told : List ℕ → ℕ → Row
-told part status = row (replyTo (twoOpen 0) 0 (setKey deviceManager 2 part)) (2 ∷ 20 ∷ reply7 status)
+abbrev pub statusRow : List ℕ → ℕ → Row
+statusRow part status = row (replyTo (twoOpen 0) 0 (setKey deviceManager 2 part)) (2 ∷ 20 ∷ reply7 status)
 
 -- "status 4 for wrong count or lengths, then 7 for the text or port 0"
 abbrev pub statusRows : List Row
 statusRows =
-    told (arguments keyA 0 [] 50000) 0
-    ∷ told (arguments noKey 0 [] 65535) 0
-    ∷ told (arguments keyA 11 text239 1) 0
-    ∷ told (arguments keyA 0 [] 0) 7
-    ∷ told (arguments keyA 9 text240 50000) 7
-    ∷ told (arguments keyA 15 text223 50000) 7
-    ∷ told (arguments keyA 7 text0 50000) 7
-    ∷ told (arguments keyA 10 textLeading 50000) 7
-    ∷ told (arguments keyA 7 textShort 50000) 7
-    ∷ told (arguments keyA 12 text239 50000) 4
-    ∷ told (arguments keyA 10 text239 50000) 4
-    ∷ told keyA 4
-    ∷ told [] 4
+    statusRow (arguments keyA 0 [] 50000) 0
+    ∷ statusRow (arguments noKey 0 [] 65535) 0
+    ∷ statusRow (arguments keyA 11 text239 1) 0
+    ∷ statusRow (arguments keyA 0 [] 0) 7
+    ∷ statusRow (arguments keyA 9 text240 50000) 7
+    ∷ statusRow (arguments keyA 15 text223 50000) 7
+    ∷ statusRow (arguments keyA 7 text0 50000) 7
+    ∷ statusRow (arguments keyA 10 textLeading 50000) 7
+    ∷ statusRow (arguments keyA 7 textShort 50000) 7
+    ∷ statusRow (arguments keyA 12 text239 50000) 4
+    ∷ statusRow (arguments keyA 10 text239 50000) 4
+    ∷ statusRow keyA 4
+    ∷ statusRow [] 4
     ∷ row (replyTo (twoOpen 0) 0 (setKey deviceManager 1 (arguments keyA 0 [] 0))) (2 ∷ 20 ∷ reply7 4)
     ∷ row (replyTo (twoOpen 0) 0 (setKey subscriptionManager 2 (arguments keyA 0 [] 50000))) (2 ∷ 20 ∷ reply7 11)
     ∷ []
@@ -94,8 +98,8 @@ keptRows =
     row (mechanismOf (armedWith keyA [])) (keyA ++ (0 ∷ 0 ∷ 0 ∷ 0 ∷ 50000 ∷ []))
     ∷ row (mechanismOf (armedWith keyA text239)) (keyA ++ (239 ∷ 255 ∷ 0 ∷ 1 ∷ 50000 ∷ []))
     ∷ row (mechanismOf (rule (armedWith keyA []) (asked (closing 0)) .0)) (keyA ++ (0 ∷ 0 ∷ 0 ∷ 0 ∷ 50000 ∷ []))
-    ∷ row (datagramAnswer (afterMessage (armedWith keyA []) 1 (setKey deviceManager 2 (arguments keyB 0 [] 50000))) (sentinel ++ keyA)) (0 ∷ 0 ∷ [])
-    ∷ row (datagramAnswer (afterMessage (armedWith keyA []) 1 (setKey deviceManager 2 (arguments keyB 0 [] 50000))) (sentinel ++ keyB)) (0 ∷ 1 ∷ [])
+    ∷ row (datagramAnswer armedAgain (sentinel ++ keyA)) (0 ∷ 0 ∷ [])
+    ∷ row (datagramAnswer armedAgain (sentinel ++ keyB)) (0 ∷ 1 ∷ [])
     ∷ []
 
 -- "A datagram of exactly 24 bytes, the sentinel .. and the key, resets if the mechanism is armed and the key matches"
@@ -123,11 +127,12 @@ rackRows =
     ∷ row (replyTo again 0 lock4097) (2 ∷ 20 ∷ reply7 0)
     ∷ row (again .reading ∷ mechanismOf again) (5000 ∷ noKey ++ (0 ∷ 0 ∷ 0 ∷ 0 ∷ 0 ∷ []))
     ∷ row (datagramAnswer again (sentinel ++ keyA)) (0 ∷ 0 ∷ [])
+    ∷ row (datagramAnswer again (sentinel ++ noKey)) (0 ∷ 0 ∷ [])
     ∷ []
 
-abbrev pub table : List Row
-table = statusRows ++ keptRows ++ datagramRows ++ rackRows
+abbrev pub resetTable : List Row
+resetTable = statusRows ++ keptRows ++ datagramRows ++ rackRows
 
 -- every row gives what is wanted
 abbrev pub ResetWorked : Type 0
-ResetWorked = map (λ (r : Row). r .gives) table ≡ map (λ (r : Row). r .wanted) table
+ResetWorked = map (λ (r : Row). r .gives) resetTable ≡ map (λ (r : Row). r .wanted) resetTable

@@ -83,7 +83,7 @@ unfoldable pub resetBy : Bool → Device → Device × Given
 resetBy true d = (freshOf (d .reading), given (0 ∷ 1 ∷ []) [])
 resetBy false d = (d, given (0 ∷ 0 ∷ []) [])
 
--- THE RULES of document 01 when messages come whole
+-- THE RULES of document 01, and of document 02 (ii), when messages come whole
 unfoldable pub rule : Device → Asked → Device × Given
 rule d (message n m out) = messageBy (decide m) d n m out
 rule d (asked opening) = openBy (openOf d .answer) d (openOf d .device)

@@ -1,6 +1,6 @@
 -- THE STREAM THEOREM, demand 3: "let several connections' bytes arrive cut anywhere and mixed, with openings, closings, clock
 -- readings and takings between: everything is what document 01's rules give when each message, up to its deciding byte, is handed
--- over whole at the place of its deciding byte; only undecided bytes remain besides".
+-- over whole at the place of its deciding byte; only undecided bytes remain besides". Document 02 (ii)'s datagrams are among the calls.
 use Prim.Native.Nat.{ℕ}
 use mathlib.Core.Path.{_≡_}
 use mathlib.Core.Bool.{Bool, true, false}

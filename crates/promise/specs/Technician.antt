@@ -122,7 +122,7 @@ pub record TechnicianLetIn : Type 0 where
   pub never : (r : Record) (area : List ℕ) (reading n H silence : ℕ) → Watched (r .device) n H silence → passes r area reading ≡ true → silence + stepAt r reading < 3 * H → Leaves r area reading n H (silence + stepAt r reading)
   -- a tablet that set no heartbeat, or heartbeat zero, is closed by no tick, and no tick takes its locks
   pub unwatched : (r : Record) (area : List ℕ) (reading : ℕ) → passes r area reading ≡ true → (n : ℕ) → liveAt (r .device .connections) n ≡ true → getD (r .device .connections) n closed .beat ≡ 0 → Stays n (r .device) (tickCall r area reading .state .device)
-  -- call after call, whatever others do, the silence is the sum of the steps as long as that is below three heartbeats
+  -- call after call, whatever others do short of a reset, the silence is the sum of the steps as long as that is below three heartbeats
   pub many : (r : Record) (area : List ℕ) (calls : List (Call Ask (List ℕ))) (n H silence : ℕ) → Watched (r .device) n H silence → allSilent n r area calls ≡ true → silence + timeOf (r .device .reading) calls < 3 * H → Watched (callsOf r area calls .0 .device) n H (silence + timeOf (r .device .reading) calls)
   -- all that while what the tablet held it holds, and another's lock of it gets status 3
   pub lockedOut : (r : Record) (area : List ℕ) (calls : List (Call Ask (List ℕ))) (n H silence : ℕ) → Watched (r .device) n H silence → allSilent n r area calls ≡ true → silence + timeOf (r .device .reading) calls < 3 * H → (k at : ℕ) → eqb k n ≡ false → at < muteCount → getD (r .device .holders) at 0 ≡ n + 1 → lockStatus (callsOf r area calls .0 .device) k at ≡ 3

@@ -62,7 +62,7 @@ pub fn latest_key_counts()
     ensures { λ _. ⌜ LatestKeyCounts ⌝ }
 {}
 
-// No answer, reply, notification or byte of the area tells anything of the key.
+// But for whether a datagram was the key, no answer, reply, notification or byte of the area tells anything of it.
 pub fn key_stays_inside()
     ensures { λ _. ⌜ KeyStaysInside ⌝ }
 {}

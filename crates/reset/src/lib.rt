@@ -21,7 +21,8 @@ pub struct Reset {
 
 // The right one starts the device anew, at its last reading; any other changes nothing.
 pub fn datagram(state: Record, area: &mut [u8], datagram: &[u8]) -> Reset
-    ensures { λ r. ⌜ outcome (resettingNumbers (r .answer)) (r .state) (now (area .exit)) [] ≡ datagramCall state (now (area .entry)) (now (datagram .entry)) ⌝ }
+    ensures { λ r. ⌜ outcome (resettingNumbers (r .answer)) (r .state) (now (area .exit)) []
+        ≡ datagramCall state (now (area .entry)) (now (datagram .entry)) ⌝ }
 {
     if !state.obeys() {
         return Reset {

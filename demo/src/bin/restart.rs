@@ -8,7 +8,8 @@ const SEEN: &str = "\
 if it worked: the amplifier says 'reset by key', every controller is cut off, every lock can be taken,
               and the port is closed until a key is set again
 if it did not: it says 'a datagram of 24 bytes changed nothing' to a key that is not the latest;
-              if it says nothing the datagram was lost, so send it again";
+              if it says nothing the datagram was lost, or it does not listen there:
+              look at its last line 'listening for datagrams', and send it again";
 
 fn main() -> ExitCode {
     let words: Vec<String> = std::env::args().skip(1).collect();

@@ -3,7 +3,7 @@ use mathlib.Core.Path.{ap, _∙_}
 use mathlib.Core.List.{List, _∷_}
 use lib.ListN.{length, take, drop}
 use Rattle.dotted.specs.declared.Part.{Part}
-use Rattle.dotted.specs.Text.{addressOf, ofParts}
+use Rattle.dotted.specs.Text.{fourParts, ofParts}
 use denote.Ref.{now}
 use native.Mathlib.Omega.{arith}
 use Rattle.dotted.proofs.Fields.{uncut, only-three, cut, fourth}
@@ -57,7 +57,7 @@ returns-2 c =
     let d = c .before .before .before .before .before .before .first-dot in
     let i = d .result in
     let p = c .before .before .before .part-of in
-    c .address .ensures ∙ ap (addressOf (a .a) (a .b) (p .result)) (c .before .part-of2 .ensures)
+    c .address .ensures ∙ ap (fourParts (a .a) (a .b) (p .result)) (c .before .part-of2 .ensures)
     ∙ fourth (a .a) (a .b) (p .result) (take (length t - (i + 1)) (drop (i + 1) t))
     ∙ ap (λ (ps : List Part). ofParts (a .a ∷ a .b ∷ ps)) (cut t i (p .result) (d .ensures .0) (omega arith) (p .ensures))
 

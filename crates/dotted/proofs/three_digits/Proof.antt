@@ -1,6 +1,6 @@
 use mathlib.Core.Path.{_∙_}
 use Rattle.dotted.proofs.Readings.{three-read}
-use Rattle.dotted.specs.Text.{valueOf}
+use Rattle.dotted.specs.Text.{digitValue}
 use borrow.Author.Needs.{needs}
 use Rattle.dotted.proofs.three_digits.Statement.{statement}
 use Rattle.dotted.proofs.three_digits.Tie as tie
@@ -18,25 +18,25 @@ value-requires : tie.Need-value-requires
 value-requires c κs = search needs
 
 mul-part-if : tie.Need-mul-part-if
-unfolding valueOf
+unfolding digitValue
 mul-part-if c = search needs
 
 value-requires-2 : tie.Need-value-requires-2
 value-requires-2 c κs = search needs
 
 mul-part-if-2 : tie.Need-mul-part-if-2
-unfolding valueOf
+unfolding digitValue
 mul-part-if-2 c = search needs
 
 add-part-if : tie.Need-add-part-if
-unfolding valueOf
+unfolding digitValue
 add-part-if c = search needs
 
 value-requires-3 : tie.Need-value-requires-3
 value-requires-3 c κs = search needs
 
 add-part-if-2 : tie.Need-add-part-if-2
-unfolding valueOf
+unfolding digitValue
 add-part-if-2 c = search needs
 
 part-if-requires : tie.Need-part-if-requires

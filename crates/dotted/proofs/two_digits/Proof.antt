@@ -1,4 +1,4 @@
-use Rattle.dotted.specs.Text.{valueOf, twoDigits}
+use Rattle.dotted.specs.Text.{digitValue, twoDigits}
 use borrow.Author.Needs.{needs}
 use Rattle.dotted.proofs.two_digits.Statement.{statement}
 use Rattle.dotted.proofs.two_digits.Tie as tie
@@ -13,14 +13,14 @@ value-requires : tie.Need-value-requires
 value-requires c κs = search needs
 
 mul-part-if : tie.Need-mul-part-if
-unfolding valueOf
+unfolding digitValue
 mul-part-if c = search needs
 
 value-requires-2 : tie.Need-value-requires-2
 value-requires-2 c κs = search needs
 
 add-part-if : tie.Need-add-part-if
-unfolding valueOf
+unfolding digitValue
 add-part-if c = search needs
 
 part-if-requires : tie.Need-part-if-requires

@@ -1,4 +1,4 @@
-use Rattle.dotted.specs.Text.{valueOf}
+use Rattle.dotted.specs.Text.{digitValue}
 use Rattle.dotted.proofs.Readings.{value-below}
 use borrow.Author.Needs.{needs}
 use Rattle.dotted.proofs.value.Statement.{statement}
@@ -11,7 +11,7 @@ cast-result : tie.Need-cast-result
 cast-result c = search needs
 
 returns-2 : tie.Need-returns-2
-unfolding valueOf
+unfolding digitValue
 returns-2 c = search needs
 
 pub value-spec : {M : Type 1} → statement M

@@ -13,7 +13,7 @@ use Rattle.reader.specs.Entry.{hasEntry, fieldsOf, entryIn, entryBy, partIn, pa
 use Rattle.reader.specs.Entry as entries
 use Rattle.layout.specs.Message.{headBytes, message, atFront}
 use Rattle.octets.specs.Same.{sameBytes}
-use Rattle.dotted.specs.Text.{isDot, isDigit, isLeading, valueOf as digitOf, partIf, oneDigit, twoDigits, threeDigits, partOf as textPart, onto, fieldsOf as textFields, addressOf as dottedAddress, ofParts, partsOf, dottedOf}
+use Rattle.dotted.specs.Text.{isDot, isDigit, isLeading, digitValue, partIf, oneDigit, twoDigits, threeDigits, textPart, onto, textFields, fourParts, ofParts, partsOf, dottedOf}
 use Rattle.mechanism.specs.Arguments.{keyIn, textIn, portIn, isMisfit, isMulticast, isGroup, isTextTaken, addressOf, isUntaken, armedBy}
 use Rattle.mechanism.specs.Datagram.{resets}
 use Rattle.connection.specs.State.{liveAt, isFree, isDue}
@@ -38,7 +38,7 @@ use Rattle.promise.proofs.reset_worked.Statement.{statement}
 use Rattle.promise.proofs.reset_worked.Tie as tie
 
 returns : tie.Need-returns
-unfolding sameBytes isDot isDigit isLeading digitOf partIf oneDigit twoDigits threeDigits textPart onto textFields dottedAddress ofParts partsOf dottedOf keyIn textIn portIn isMisfit isMulticast isGroup isTextTaken addressOf isUntaken armedBy resets be16At be32At bytes16 bytes32 zeros formOf valueOf beatOf countFault fieldsFault headerFault leastEntry countPlace leastCount countFits entryFits entrySize entriesFill keepAliveFill dataSound decideData decideHeader decide entriesFrom entryBytes parametersOf methodAt commandOf notificationOf responseOf heartbeatOf heartbeatNumbers commandNumbers notificationNumbers responseNumbers messageOf readBy readOf hasEntry fieldsOf entryIn entryBy entries.entryOf partIn partBy partOf headBytes message atFront liveAt isFree isDue fitsStep closesAt quietAfter tickedOf heardOf sentOf setBeat beatingOf isMute isUnused isWaiting isTwin markedOf subscriptions.toldOf sweptOf placeOf isManager isObject isTelling isLocking isMuting isSubscribing hasMethod isForbidden countOf lengthOf isLengthBad isPairBad isMalformed entryOf isStrange isEmitterBad isMuteValue isValueBad classOf identificationOf replyOf failedOf toldOf ownerOf isOther holderObeys sweptHolder responseBytes subscriberBytes changeBytes notificationEntry notificationBytes heartbeatBytes keepAliveBytes freshOf openOf sweepOf closeOf heardAt sentAt toldAt beatingAt tickBy holderAt muteAt isHeldByOther isSubscribed isOutOfTurn isFull statusOf mutedOf doneOf answerOf ranBy runOf ranWith ranFirst lastOf responseTo responsesOf commandsOf ruling.beatOf soundOf notifiedOf sentOut notifying reminding takenBy messageBy openBy closeBy rules.tickBy takeBy resetBy rule
+unfolding sameBytes isDot isDigit isLeading digitValue partIf oneDigit twoDigits threeDigits textPart onto textFields fourParts ofParts partsOf dottedOf keyIn textIn portIn isMisfit isMulticast isGroup isTextTaken addressOf isUntaken armedBy resets be16At be32At bytes16 bytes32 zeros formOf valueOf beatOf countFault fieldsFault headerFault leastEntry countPlace leastCount countFits entryFits entrySize entriesFill keepAliveFill dataSound decideData decideHeader decide entriesFrom entryBytes parametersOf methodAt commandOf notificationOf responseOf heartbeatOf heartbeatNumbers commandNumbers notificationNumbers responseNumbers messageOf readBy readOf hasEntry fieldsOf entryIn entryBy entries.entryOf partIn partBy partOf headBytes message atFront liveAt isFree isDue fitsStep closesAt quietAfter tickedOf heardOf sentOf setBeat beatingOf isMute isUnused isWaiting isTwin markedOf subscriptions.toldOf sweptOf placeOf isManager isObject isTelling isLocking isMuting isSubscribing hasMethod isForbidden countOf lengthOf isLengthBad isPairBad isMalformed entryOf isStrange isEmitterBad isMuteValue isValueBad classOf identificationOf replyOf failedOf toldOf ownerOf isOther holderObeys sweptHolder responseBytes subscriberBytes changeBytes notificationEntry notificationBytes heartbeatBytes keepAliveBytes freshOf openOf sweepOf closeOf heardAt sentAt toldAt beatingAt tickBy holderAt muteAt isHeldByOther isSubscribed isOutOfTurn isFull statusOf mutedOf doneOf answerOf ranBy runOf ranWith ranFirst lastOf responseTo responsesOf commandsOf ruling.beatOf soundOf notifiedOf sentOut notifying reminding takenBy messageBy openBy closeBy rules.tickBy takeBy resetBy rule
 returns c = refl
 
 pub reset-worked-spec : {M : Type 1} → statement M

@@ -4,8 +4,8 @@ use borrow.Author.Needs.{needs}
 use Rattle.device.proofs.Device.arm.Statement.{statement}
 use Rattle.device.proofs.Device.arm.Tie as tie
 
-armed-by-requires : tie.Need-armed-by-requires
-armed-by-requires c κs = search arm-fits
+arming-of-requires : tie.Need-arming-of-requires
+arming-of-requires c κs = search arm-fits
 
 failed-requires : tie.Need-failed-requires
 failed-requires c κs = search needs
@@ -20,4 +20,4 @@ returns-2 : tie.Need-returns-2
 returns-2 c = λ n. search (arm-done, needs)
 
 pub arm-spec : {M : Type 1} → statement M
-arm-spec = tie.close (tie.spec armed-by-requires failed-requires returns done-requires returns-2)
+arm-spec = tie.close (tie.spec arming-of-requires failed-requires returns done-requires returns-2)

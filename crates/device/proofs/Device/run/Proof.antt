@@ -1,4 +1,4 @@
-use Rattle.device.proofs.Shapes.{run-stopped, add-formed, remove-formed, arm-formed, mute-left, set-size, run-class, run-lockable, run-add, run-remove, run-arm, run-lock, run-unlock, run-get, run-set}
+use Rattle.device.proofs.Shapes.{run-stopped, is-told, add-formed, remove-formed, arm-formed, mute-left, set-size, run-tell, run-add, run-remove, run-arm, run-lock, run-unlock, run-get, run-set}
 use native.Mathlib.Omega.{arith}
 use borrow.Author.Needs.{needs}
 use Rattle.device.proofs.Device.run.Statement.{statement}
@@ -16,35 +16,32 @@ failed-requires c κs = search needs
 returns : tie.Need-returns
 returns c = search run-stopped
 
-class-identification-requires : tie.Need-class-identification-requires
-class-identification-requires c κs = search needs
+is-telling-requires : tie.Need-is-telling-requires
+is-telling-requires c κs = search needs
+
+tell-requires : tie.Need-tell-requires
+tell-requires c κs = search is-told
 
 returns-2 : tie.Need-returns-2
-returns-2 c = search run-class
-
-lockable-requires : tie.Need-lockable-requires
-lockable-requires c κs = search needs
-
-returns-3 : tie.Need-returns-3
-returns-3 c = search run-lockable
+returns-2 c = search run-tell
 
 subscribe-requires : tie.Need-subscribe-requires
 subscribe-requires c κs = search add-formed
 
-returns-4 : tie.Need-returns-4
-returns-4 c = search run-add
+returns-3 : tie.Need-returns-3
+returns-3 c = search run-add
 
 unsubscribe-requires : tie.Need-unsubscribe-requires
 unsubscribe-requires c κs = search remove-formed
 
-returns-5 : tie.Need-returns-5
-returns-5 c = search run-remove
+returns-4 : tie.Need-returns-4
+returns-4 c = search run-remove
 
 arm-requires : tie.Need-arm-requires
 arm-requires c κs = search arm-formed
 
-returns-6 : tie.Need-returns-6
-returns-6 c = search (run-arm, c .arm .ensures)
+returns-5 : tie.Need-returns-5
+returns-5 c = search (run-arm, c .arm .ensures)
 
 place-requires : tie.Need-place-requires
 place-requires c κs = search mute-left
@@ -61,22 +58,22 @@ get-requires c κs = search needs
 shared-slice-read-set : tie.Need-shared-slice-read-set
 shared-slice-read-set c =
     let passed = c .before .before .before .before .before in
-    omega (arith, set-size _ _ _ _ _ (passed .before .before .before .before .before .before .first-status .ensures) (passed .before .before .before .before .before .if1 .left) (passed .before .before .before .before .if2 .left) (passed .before .before .before .if3 .left) (passed .before .before .if4 .left) (passed .before .if5 .left) (passed .if6 .left) (c .before .before .before .if7 .left) (c .before .before .if8 .left) (c .before .if9 .left))
+    omega (arith, set-size _ _ _ _ _ (passed .before .before .before .before .before .before .first-status .ensures) (passed .before .before .before .before .before .if1 .left) _ (passed .before .before .before .before .is-telling .ensures) (passed .before .before .before .if2 .left) (passed .before .before .if3 .left) (passed .before .if4 .left) (passed .if5 .left) (c .before .before .before .if6 .left) (c .before .before .if7 .left) (c .before .if8 .left))
 
 set-requires : tie.Need-set-requires
 set-requires c κs = search needs
 
+returns-6 : tie.Need-returns-6
+returns-6 c = search run-lock
+
 returns-7 : tie.Need-returns-7
-returns-7 c = search run-lock
+returns-7 c = search run-unlock
 
 returns-8 : tie.Need-returns-8
-returns-8 c = search run-unlock
+returns-8 c = search run-get
 
 returns-9 : tie.Need-returns-9
-returns-9 c = search run-get
-
-returns-10 : tie.Need-returns-10
-returns-10 c = search run-set
+returns-9 c = search run-set
 
 pub run-spec : {M : Type 1} → statement M
 run-spec =
@@ -86,23 +83,22 @@ run-spec =
     first-status-requires
     failed-requires
     returns
-    class-identification-requires
+    is-telling-requires
+    tell-requires
     returns-2
-    lockable-requires
-    returns-3
     subscribe-requires
-    returns-4
+    returns-3
     unsubscribe-requires
-    returns-5
+    returns-4
     arm-requires
-    returns-6
+    returns-5
     place-requires
     lock-requires
     unlock-requires
     get-requires
     shared-slice-read-set
     set-requires
+    returns-6
     returns-7
     returns-8
-    returns-9
-    returns-10)
+    returns-9)

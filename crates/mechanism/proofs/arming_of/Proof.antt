@@ -1,8 +1,8 @@
 use native.Mathlib.Omega.{arith}
 use Rattle.mechanism.proofs.Laws.{fitting, arms-not, arms}
 use borrow.Author.Needs.{needs}
-use Rattle.mechanism.proofs.armed_by.Statement.{statement}
-use Rattle.mechanism.proofs.armed_by.Tie as tie
+use Rattle.mechanism.proofs.arming_of.Statement.{statement}
+use Rattle.mechanism.proofs.arming_of.Tie as tie
 
 be16-requires : tie.Need-be16-requires
 be16-requires c κs = omega (arith, fitting _ (c .before .pre))
@@ -43,8 +43,8 @@ address-of-requires c κs = search needs
 returns-2 : tie.Need-returns-2
 returns-2 c = search (arms, needs)
 
-pub armed-by-spec : {M : Type 1} → statement M
-armed-by-spec =
+pub arming-of-spec : {M : Type 1} → statement M
+arming-of-spec =
     tie.close
     (tie.spec
     be16-requires
