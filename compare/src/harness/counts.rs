@@ -339,6 +339,11 @@ fn is_possible(name: &str, number: u8) -> bool {
 
 /// The type of the message a delivery completed.
 fn delivered_type(call: &Call) -> u8 {
+    decided(call).get(7).copied().unwrap_or_default()
+}
+
+/// The message that a delivery completed, and what comes behind it.
+pub fn decided(call: &Call) -> Vec<u8> {
     let Call::Deliver {
         record,
         area,
@@ -347,12 +352,11 @@ fn delivered_type(call: &Call) -> u8 {
         ..
     } = call
     else {
-        return 0;
+        return Vec::new();
     };
     let n = usize::from(*n);
     let held = usize::from(record.held[n]);
-    let front = area[n * SHARE..n * SHARE + held].iter().chain(piece);
-    front.copied().nth(7).unwrap_or_default()
+    [&area[n * SHARE..n * SHARE + held], piece].concat()
 }
 
 /// Adds each count to the one at its place.

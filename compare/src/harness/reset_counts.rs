@@ -1,10 +1,10 @@
 //! What a run exercised of reset by key.
 
 use super::call::{Answer, Call, NAMES, Outcome};
-use super::counts::add_all;
+use super::counts::{add_all, decided};
 use super::reset::{SENTINEL, asking};
 use crate::answer::Reset;
-use crate::record::{Mechanism, Record, SHARE};
+use crate::record::{Mechanism, Record};
 use std::cmp::Ordering;
 
 /// Two resets, then why nothing is changed.
@@ -245,23 +245,6 @@ fn broken_rules(mechanism: &Mechanism) -> Vec<usize> {
         !armed && port != 0,
     ];
     (0..RULES.len()).filter(|rule| broken[*rule]).collect()
-}
-
-/// The message that a delivery completed, and what comes behind it.
-fn decided(call: &Call) -> Vec<u8> {
-    let Call::Deliver {
-        record,
-        area,
-        n,
-        piece,
-        ..
-    } = call
-    else {
-        return Vec::new();
-    };
-    let n = usize::from(*n);
-    let held = usize::from(record.held[n]);
-    [&area[n * SHARE..n * SHARE + held], piece].concat()
 }
 
 /// The entries of a sound message at the front.

@@ -4,7 +4,7 @@ use mathlib.Core.Path.{_≡_, refl, sym, ap, _∙_}
 use mathlib.Core.Bool.{Bool, true, false, cond, not, or-false}
 use mathlib.Core.List.{List, [], _∷_, map}
 use native.Mathlib.Omega.{arith}
-use borrow.Author.Tests.{le-leb, lt-ltb, le-ltb, eq-eqb, ne-eqb, not-true, not-false}
+use borrow.Author.Tests.{le-leb, lt-ltb, le-ltb, eq-eqb, ne-eqb, eqb-true, not-true, not-false}
 use lib.Dec.{eqb, ltb}
 use lib.ListN.{length, getD, set}
 use Rattle.laws.specs.Lists.{any}
@@ -122,18 +122,23 @@ module _ (d : Device) (n at : ℕ) (h : at < 8) where
             changes = rw (place-of at, ne-eqb (getD (d .mutes) at 0) v s)
 
 -- ---- what is told
-pub told-class : (d : Device) (t : ℕ) (a : Answer) → a ≡ toldOf (identificationOf (classOf t)) → unchanged d a ≡ unchanged d (answerOf d t classMethod)
+pub told-class : (t m : ℕ) → m ≡ classMethod → (a : Answer) → a ≡ toldOf (identificationOf (classOf t)) → (d : Device) → a ≡ answerOf d t m
 unfolding answerOf replyOf
-told-class d t a e = rw e
+told-class t m e a q d = rw (e, q)
 
-module _ (d : Device) (t : ℕ) (b : Bool) (q : b ≡ isMute t) where
-  pub told-lockable : b ≡ true → (a : Answer) → a ≡ toldOf (1 ∷ []) → unchanged d a ≡ unchanged d (answerOf d t lockableMethod)
-  unfolding answerOf replyOf
-  told-lockable s a e = rw (e, ← q, s)
+module _ (t m : ℕ) (k : isTelling m ≡ true) (n : m ≡ classMethod → ⊥) (b : Bool) (q : b ≡ isMute t) where
+  -- what is told by a method that is not 1.1 is 1.2
+  told-else : m ≡ lockableMethod
+  unfolding isTelling
+  told-else = eqb-true m lockableMethod (rw (ne-eqb m classMethod n) at k)
 
-  pub told-not-lockable : b ≡ false → (a : Answer) → a ≡ toldOf (0 ∷ []) → unchanged d a ≡ unchanged d (answerOf d t lockableMethod)
+  pub told-lockable : b ≡ true → (a : Answer) → a ≡ toldOf (1 ∷ []) → (d : Device) → a ≡ answerOf d t m
   unfolding answerOf replyOf
-  told-not-lockable s a e = rw (e, ← q, s)
+  told-lockable s a e d = rw (told-else, e, ← q, s)
+
+  pub told-not-lockable : b ≡ false → (a : Answer) → a ≡ toldOf (0 ∷ []) → (d : Device) → a ≡ answerOf d t m
+  unfolding answerOf replyOf
+  told-not-lockable s a e d = rw (told-else, e, ← q, s)
 
 pub told-value : (d : Device) (at : ℕ) (a : Answer) → a ≡ toldOf (getD (d .mutes) at 0 ∷ []) → unchanged d a ≡ unchanged d (answerOf d (4097 + at) getMethod)
 unfolding answerOf replyOf muteAt

@@ -91,18 +91,6 @@ target-is t at h e = omega (arith, mute-at t h)
 pub is-told : (m : ℕ) (b : Bool) → b ≡ isTelling m → b ≡ true → isTelling m ≡ true
 is-told m b q t = sym q ∙ t
 
--- what is told by a method that is not 1.1 is 1.2
-told-else : (m : ℕ) → isTelling m ≡ true → (m ≡ classMethod → ⊥) → m ≡ lockableMethod
-unfolding isTelling
-told-else m t n = eqb-true m lockableMethod (rw (ne-eqb m classMethod n) at t)
-
-module _ (d : Device) (t m : ℕ) (r : Ran) where
-  pub tell-class : m ≡ classMethod → r ≡ unchanged d (answerOf d t classMethod) → r ≡ unchanged d (answerOf d t m)
-  tell-class e q = rw e q
-
-  pub tell-lockable : isTelling m ≡ true → (m ≡ classMethod → ⊥) → r ≡ unchanged d (answerOf d t lockableMethod) → r ≡ unchanged d (answerOf d t m)
-  tell-lockable k n q = rw (told-else m k n) q
-
 subscribing-not : (m : ℕ) → (m ≡ addMethod → ⊥) → (m ≡ removeMethod → ⊥) → isSubscribing m ≡ false
 unfolding isSubscribing
 subscribing-not m a b = rw (ne-eqb m addMethod a, ne-eqb m removeMethod b)
@@ -200,14 +188,17 @@ module _ (d : Device) (n t m count : ℕ) (part : List ℕ) (k : ℕ) (ek : k �
         let c = first-allowed t k count part (sym es ∙ z) .1 in
         e ∙ ap (λ (j : ℕ). runOf d n t k j part) (sym c) ∙ ap (λ (j : ℕ). runOf d n t j count part) ek
 
-    pub run-tell : (b : Bool) → b ≡ isTelling k → b ≡ true → (o : Ran) → o ≡ unchanged d (answerOf d t k) → o ≡ runOf d n t m count part
+    pub run-tell : (b : Bool) → b ≡ isTelling k → b ≡ true → (a : Answer) → ((e : Device) → a ≡ answerOf e t k) → unchanged d a ≡ runOf d n t m count part
     unfolding isTelling
-    run-tell b eb e o q = go (or-cases (eqb k classMethod) (eqb k lockableMethod) (sym eb ∙ e))
+    run-tell b eb e a q = go (or-cases (eqb k classMethod) (eqb k lockableMethod) (sym eb ∙ e))
       where
-        named : (j : ℕ) → k ≡ j → o ≡ unchanged d (answerOf d t j)
-        named j f = q ∙ ap (λ (x : ℕ). unchanged d (answerOf d t x)) f
+        o : Ran
+        o = unchanged d a
 
-        go : (eqb k classMethod ≡ true) ⊎ (eqb k lockableMethod ≡ true) → o ≡ runOf d n t m count part
+        named : (j : ℕ) → k ≡ j → o ≡ unchanged d (answerOf d t j)
+        named j f = ap (unchanged d) (q d ∙ ap (answerOf d t) f)
+
+        go : (eqb k classMethod ≡ true) ⊎ (eqb k lockableMethod ≡ true) → unchanged d a ≡ runOf d n t m count part
         go (inl f) = let g = eqb-true k classMethod f in as-run o (as-class d n t k part o (allowed .formed) (allowed .object) g (named classMethod g))
         go (inr f) = let g = eqb-true k lockableMethod f in as-run o (as-lockable d n t k part o (allowed .formed) (allowed .object) g (named lockableMethod g))
 

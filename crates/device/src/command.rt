@@ -11,44 +11,23 @@ ghost use Rattle.subscription.specs.State.{firstMute};
 ghost use Rattle.objects.specs.Methods.{methodNumber, deviceManager, subscriptionManager, classMethod, lockableMethod, lockMethod, unlockMethod, getMethod, setMethod, addMethod, removeMethod, resetKeyMethod, isTelling};
 ghost use Rattle.objects.specs.Tests.{isMalformed};
 ghost use Rattle.device.specs.Run.{answerOf, unchanged, runOf};
+ghost use Rattle.device.specs.declared.Device.{Device};
+
+// What 1.1 and 1.2, which every object has, tell: it needs no device.
+fn told(target: u32, m: u32) -> Answer
+    requires { ⌜ isTelling m ≡ true ⌝ }
+    ensures { λ r. ⌜ ((d : Device) → r ≡ answerOf d target m) ⌝ }
+{
+    if m == objects::CLASS {
+        return Answer::class(target);
+    }
+    if subscription::is_mute(target) {
+        return Answer::byte(1);
+    }
+    Answer::byte(0)
+}
 
 impl Device {
-    pub fn class_identification(self, target: u32) -> Ran
-        ensures { λ r. ⌜ r ≡ unchanged self (answerOf self target classMethod) ⌝ }
-    {
-        Ran {
-            device: self,
-            answer: Answer::class(target),
-        }
-    }
-
-    pub fn lockable(self, target: u32) -> Ran
-        ensures { λ r. ⌜ r ≡ unchanged self (answerOf self target lockableMethod) ⌝ }
-    {
-        if subscription::is_mute(target) {
-            return Ran {
-                device: self,
-                answer: Answer::byte(1),
-            };
-        }
-        Ran {
-            device: self,
-            answer: Answer::byte(0),
-        }
-    }
-
-    // The methods that every object has, and that change nothing.
-    fn tell(self, target: u32, m: u32) -> Ran
-        requires { ⌜ isTelling m ≡ true ⌝ }
-        ensures { λ r. ⌜ r ≡ unchanged self (answerOf self target m) ⌝ }
-    {
-        if m == objects::CLASS {
-            self.class_identification(target)
-        } else {
-            self.lockable(target)
-        }
-    }
-
     pub fn get(self, at: usize) -> Ran
         requires { ⌜ at < 8 ⌝ }
         ensures { λ r. ⌜ r ≡ unchanged self (answerOf self (firstMute + at) getMethod) ⌝ }
@@ -234,7 +213,10 @@ impl Device {
             };
         }
         if objects::is_telling(m) {
-            return self.tell(target, m);
+            return Ran {
+                device: self,
+                answer: told(target, m),
+            };
         }
         if m == objects::ADD {
             return self.subscribe(n, part);

@@ -19,11 +19,11 @@ returns c = search run-stopped
 is-telling-requires : tie.Need-is-telling-requires
 is-telling-requires c κs = search needs
 
-tell-requires : tie.Need-tell-requires
-tell-requires c κs = search is-told
+told-requires : tie.Need-told-requires
+told-requires c κs = search is-told
 
 returns-2 : tie.Need-returns-2
-returns-2 c = search run-tell
+returns-2 c = search (run-tell, c .told .ensures)
 
 subscribe-requires : tie.Need-subscribe-requires
 subscribe-requires c κs = search add-formed
@@ -84,7 +84,7 @@ run-spec =
     failed-requires
     returns
     is-telling-requires
-    tell-requires
+    told-requires
     returns-2
     subscribe-requires
     returns-3
