@@ -284,6 +284,15 @@ mod tests {
         message::keep_alive(Beat { form, milliseconds }).unwrap()
     }
 
+    /// What the first socket still says locks nothing and closes nothing of the one that has its number now.
+    fn late_pieces_belong_to_nobody(desk: &mut Desk<Vec<u8>>, lock: &[u8]) {
+        desk.hear(piece(1, lock)).unwrap();
+        let what = What::Gone(Why::HungUp);
+        desk.hear(Heard { serial: 1, what }).unwrap();
+        assert_eq!(desk.amplifier.record().device.holders[4], 0);
+        assert!(desk.amplifier.record().device.connections[0].live);
+    }
+
     /// A number is given again while pieces of its last connection still wait.
     #[test]
     fn late_pieces_of_a_closed_connection_belong_to_nobody() {
@@ -292,11 +301,7 @@ mod tests {
         let lock = message::command(7, Asking::Lock, 5).unwrap();
         desk.hear(piece(1, &[0])).unwrap();
         let _second = arrive(&mut desk);
-        desk.hear(piece(1, &lock)).unwrap();
-        let what = What::Gone(Why::HungUp);
-        desk.hear(Heard { serial: 1, what }).unwrap();
-        assert_eq!(desk.amplifier.record().device.holders[4], 0);
-        assert!(desk.amplifier.record().device.connections[0].live);
+        late_pieces_belong_to_nobody(&mut desk, &lock);
         desk.hear(piece(2, &lock)).unwrap();
         assert_eq!(desk.amplifier.record().device.holders[4], 1);
     }
@@ -322,11 +327,7 @@ mod tests {
         while !desk.attend().unwrap() {}
         assert!(desk.sockets.iter().all(Option::is_none));
         let _second = arrive(&mut desk);
-        desk.hear(piece(1, &lock)).unwrap();
-        let what = What::Gone(Why::HungUp);
-        desk.hear(Heard { serial: 1, what }).unwrap();
-        assert_eq!(desk.amplifier.record().device.holders[4], 0);
-        assert!(desk.amplifier.record().device.connections[0].live);
+        late_pieces_belong_to_nobody(&mut desk, &lock);
     }
 
     /// A pause before a message is not counted as silence after it.

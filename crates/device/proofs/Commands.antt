@@ -10,7 +10,6 @@ use lib.ListN.{length, getD, set}
 use Rattle.laws.specs.Lists.{any}
 use Rattle.laws.proofs.Tables.{any-index, clash}
 use Rattle.octets.specs.Numbers.{be32At}
-use Rattle.mechanism.specs.State.{disarmed}
 use Rattle.mechanism.specs.Arguments.{isUntaken, armedBy, armingOf}
 use Rattle.mechanism.specs.declared.Mechanism.{Mechanism}
 use Rattle.mechanism.specs.declared.Arming.{Arming}
@@ -215,11 +214,12 @@ module _ (d : Device) (n : ℕ) (part : List ℕ) where
           rw (e, place-is x s es i ei l) (ran-done d n 4 removeMethod 2 part (remove-status f ∙ rw (← q, t, held-is x s es i ei l h)))
 
 -- ---- the mechanism
-module _ (d : Device) (part : List ℕ) (f : isMalformed resetKeyMethod 2 part ≡ false) (o : Arming) (q : o ≡ armingOf part) (n : ℕ) where
-  arm-status : statusOf d n 1 resetKeyMethod 2 part ≡ cond (isUntaken part) 7 0
-  unfolding statusOf isObject isManager hasMethod isTelling isLocking isMuting isForbidden isHeldByOther isEmitterBad isSubscribing isValueBad isOutOfTurn isFull
-  arm-status = simp (f, or-false)
+-- "4 for wrong count or lengths, then 7 for the text or port 0": the status of 3.14 hangs on no device
+pub arm-status : (d : Device) (n count : ℕ) (part : List ℕ) → statusOf d n 1 resetKeyMethod count part ≡ cond (isMalformed resetKeyMethod count part) 4 (cond (isUntaken part) 7 0)
+unfolding statusOf isObject isManager hasMethod isTelling isLocking isMuting isForbidden isHeldByOther isEmitterBad isSubscribing isValueBad isOutOfTurn isFull
+arm-status d n count part = refl
 
+module _ (d : Device) (part : List ℕ) (f : isMalformed resetKeyMethod 2 part ≡ false) (o : Arming) (q : o ≡ armingOf part) (n : ℕ) where
   -- whether it is armed, told by what was made of the arguments
   untaken-told : (t : Bool) → isUntaken part ≡ t → o .taken ≡ not t
   unfolding armingOf
@@ -230,7 +230,7 @@ module _ (d : Device) (part : List ℕ) (f : isMalformed resetKeyMethod 2 part �
   arm-bad t a e = go (isUntaken part) refl
     where
       go : (b : Bool) → isUntaken part ≡ b → unchanged d a ≡ runOf d n 1 resetKeyMethod 2 part
-      go true u = ran-failed d n 1 resetKeyMethod 2 part 7 (arm-status ∙ rw u) refl a e
+      go true u = ran-failed d n 1 resetKeyMethod 2 part 7 (arm-status d n 2 part ∙ rw (f, u)) refl a e
       go false u = clash _ (o .taken) (untaken-told false u) (not-true (o .taken) t)
 
   pub arm-done : not (o .taken) ≡ false → (a : Answer) → a ≡ toldOf [] → _≡_ {A = Ran} (record { device = withMechanism d (o .mechanism); answer = a }) (runOf d n 1 resetKeyMethod 2 part)
@@ -241,4 +241,4 @@ module _ (d : Device) (part : List ℕ) (f : isMalformed resetKeyMethod 2 part �
       go true u = clash _ (o .taken) (not-false (o .taken) t) (untaken-told true u)
       go false u =
           let m : o .mechanism ≡ armedBy part = ap (λ (x : Arming). x .mechanism) q ∙ rw u in
-          rw (e, m) (ran-done d n 1 resetKeyMethod 2 part (arm-status ∙ rw u))
+          rw (e, m) (ran-done d n 1 resetKeyMethod 2 part (arm-status d n 2 part ∙ rw (f, u)))

@@ -105,7 +105,7 @@ unfolding hasMethod isTelling isLocking isMuting isSubscribing
 remove-at t h = eqb-true t 4 (simp or-false at h)
 
 -- 3.14 is the device manager's
-arm-at : (t : ℕ) → hasMethod t resetKeyMethod ≡ true → t ≡ 1
+pub arm-at : (t : ℕ) → hasMethod t resetKeyMethod ≡ true → t ≡ 1
 unfolding hasMethod isTelling isLocking isMuting isSubscribing
 arm-at t h = eqb-true t 1 h
 
@@ -162,6 +162,19 @@ module _ (t k count : ℕ) (part : List ℕ) (s : ℕ) (es : s ≡ firstStatus t
       pub set-size : length part ≡ 1
       unfolding lengthOf
       set-size = rw set-left at (formed-are k (countOf k) part (passed .formed) .size (ne-eqb k resetKeyMethod y))
+
+-- a command with status 0 is stopped by none of the first
+first-none : (a b c e : Bool) (x : ℕ) → cond {A = ℕ} a 5 (cond b 11 (cond c 8 (cond e 4 x))) ≡ 0 → cond {A = ℕ} a 5 (cond b 11 (cond c 8 (cond e 4 0))) ≡ 0
+first-none true b c e x q = q
+first-none false true c e x q = q
+first-none false false true e x q = q
+first-none false false false true x q = q
+first-none false false false false x q = refl
+
+pub status-allowed : (d : Device) (n t m count : ℕ) (part : List ℕ) → statusOf d n t m count part ≡ 0 → Allowed t m part
+unfolding statusOf firstStatus
+status-allowed d n t m count part q =
+    first-allowed t m count part (first-none (not (isObject t)) (not (hasMethod t m)) (isForbidden t m) (isMalformed m count part) _ q) .0
 
 -- what stops a command is its status, whatever would come after
 first-stops : (a b c e : Bool) (x s : ℕ) → s ≡ cond a 5 (cond b 11 (cond c 8 (cond e 4 0))) → (s ≡ 0 → ⊥) → cond a 5 (cond b 11 (cond c 8 (cond e 4 x))) ≡ s

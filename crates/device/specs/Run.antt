@@ -7,7 +7,8 @@ use lib.ListN.{getD, set}
 use Rattle.laws.specs.Lists.{any}
 use Rattle.mechanism.specs.Arguments.{armedBy}
 use Rattle.subscription.specs.State.{free, isUnused, isTwin, twinAt, lowestUnused, markedOf}
-use Rattle.objects.specs.Methods.{lockMethod, unlockMethod, setMethod, addMethod, removeMethod, resetKeyMethod, placeOf, isObject, isLocking, hasMethod}
+use Rattle.objects.specs.Methods.{lockMethod, unlockMethod, setMethod, addMethod, removeMethod, resetKeyMethod}
+use Rattle.objects.specs.Methods.{placeOf, isObject, isLocking, hasMethod}
 use Rattle.objects.specs.Tests.{isForbidden, isMalformed, entryOf, isEmitterBad, isValueBad}
 use Rattle.objects.specs.Answers.{replyOf, failedOf, toldOf}
 use Rattle.objects.specs.declared.Answer.{Answer}

@@ -8,7 +8,7 @@ ghost use mathlib.Core.Bool.{true, false};
 ghost use mathlib.Core.List.{[], _∷_};
 ghost use Prim.Native.Nat.{_+_, _<_, ℕ};
 ghost use Rattle.subscription.specs.State.{firstMute};
-ghost use Rattle.objects.specs.Methods.{methodNumber, deviceManager, subscriptionManager, classMethod, lockableMethod, lockMethod, unlockMethod, getMethod, setMethod, addMethod, removeMethod, resetKeyMethod, isTelling};
+ghost use Rattle.objects.specs.Methods.{methodNumber, deviceManager, subscriptionManager, lockMethod, unlockMethod, getMethod, setMethod, addMethod, removeMethod, resetKeyMethod, isTelling};
 ghost use Rattle.objects.specs.Tests.{isMalformed};
 ghost use Rattle.device.specs.Run.{answerOf, unchanged, runOf};
 ghost use Rattle.device.specs.declared.Device.{Device};

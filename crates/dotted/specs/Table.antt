@@ -5,81 +5,82 @@ use mathlib.Core.List.{List, [], _∷_, map}
 use Rattle.dotted.specs.declared.Dotted.{Dotted}
 use Rattle.dotted.specs.Text.{notDotted, dottedAs, dottedOf}
 
-pub record Row : Type 0 where
+-- a text, and what it says
+pub record TextRow : Type 0 where
   pub text : List ℕ
   pub says : Dotted
 
-abbrev pub row : List ℕ → Dotted → Row
-row t d = record { text = t; says = d }
+abbrev pub textRow : List ℕ → Dotted → TextRow
+textRow t d = record { text = t; says = d }
 
-unfoldable pub table : List Row
-table =
+unfoldable pub textTable : List TextRow
+textTable =
     -- the empty text
-    row ([]) notDotted ∷
+    textRow ([]) notDotted ∷
     -- 1.2.3
-    row (49 ∷ 46 ∷ 50 ∷ 46 ∷ 51 ∷ []) notDotted ∷
+    textRow (49 ∷ 46 ∷ 50 ∷ 46 ∷ 51 ∷ []) notDotted ∷
     -- 1.2.3.4.5
-    row (49 ∷ 46 ∷ 50 ∷ 46 ∷ 51 ∷ 46 ∷ 52 ∷ 46 ∷ 53 ∷ []) notDotted ∷
+    textRow (49 ∷ 46 ∷ 50 ∷ 46 ∷ 51 ∷ 46 ∷ 52 ∷ 46 ∷ 53 ∷ []) notDotted ∷
     -- 01.2.3.4
-    row (48 ∷ 49 ∷ 46 ∷ 50 ∷ 46 ∷ 51 ∷ 46 ∷ 52 ∷ []) notDotted ∷
+    textRow (48 ∷ 49 ∷ 46 ∷ 50 ∷ 46 ∷ 51 ∷ 46 ∷ 52 ∷ []) notDotted ∷
     -- 1.2.3.04
-    row (49 ∷ 46 ∷ 50 ∷ 46 ∷ 51 ∷ 46 ∷ 48 ∷ 52 ∷ []) notDotted ∷
+    textRow (49 ∷ 46 ∷ 50 ∷ 46 ∷ 51 ∷ 46 ∷ 48 ∷ 52 ∷ []) notDotted ∷
     -- 00.0.0.0
-    row (48 ∷ 48 ∷ 46 ∷ 48 ∷ 46 ∷ 48 ∷ 46 ∷ 48 ∷ []) notDotted ∷
+    textRow (48 ∷ 48 ∷ 46 ∷ 48 ∷ 46 ∷ 48 ∷ 46 ∷ 48 ∷ []) notDotted ∷
     -- 0.0.0.00
-    row (48 ∷ 46 ∷ 48 ∷ 46 ∷ 48 ∷ 46 ∷ 48 ∷ 48 ∷ []) notDotted ∷
+    textRow (48 ∷ 46 ∷ 48 ∷ 46 ∷ 48 ∷ 46 ∷ 48 ∷ 48 ∷ []) notDotted ∷
     -- 256.1.1.1
-    row (50 ∷ 53 ∷ 54 ∷ 46 ∷ 49 ∷ 46 ∷ 49 ∷ 46 ∷ 49 ∷ []) notDotted ∷
+    textRow (50 ∷ 53 ∷ 54 ∷ 46 ∷ 49 ∷ 46 ∷ 49 ∷ 46 ∷ 49 ∷ []) notDotted ∷
     -- 1.1.1.256
-    row (49 ∷ 46 ∷ 49 ∷ 46 ∷ 49 ∷ 46 ∷ 50 ∷ 53 ∷ 54 ∷ []) notDotted ∷
+    textRow (49 ∷ 46 ∷ 49 ∷ 46 ∷ 49 ∷ 46 ∷ 50 ∷ 53 ∷ 54 ∷ []) notDotted ∷
     -- 1000.1.1.1
-    row (49 ∷ 48 ∷ 48 ∷ 48 ∷ 46 ∷ 49 ∷ 46 ∷ 49 ∷ 46 ∷ 49 ∷ []) notDotted ∷
+    textRow (49 ∷ 48 ∷ 48 ∷ 48 ∷ 46 ∷ 49 ∷ 46 ∷ 49 ∷ 46 ∷ 49 ∷ []) notDotted ∷
     -- +1.2.3.4
-    row (43 ∷ 49 ∷ 46 ∷ 50 ∷ 46 ∷ 51 ∷ 46 ∷ 52 ∷ []) notDotted ∷
+    textRow (43 ∷ 49 ∷ 46 ∷ 50 ∷ 46 ∷ 51 ∷ 46 ∷ 52 ∷ []) notDotted ∷
     -- 1.2.3.-4
-    row (49 ∷ 46 ∷ 50 ∷ 46 ∷ 51 ∷ 46 ∷ 45 ∷ 52 ∷ []) notDotted ∷
+    textRow (49 ∷ 46 ∷ 50 ∷ 46 ∷ 51 ∷ 46 ∷ 45 ∷ 52 ∷ []) notDotted ∷
     -- " 1.2.3.4"
-    row (32 ∷ 49 ∷ 46 ∷ 50 ∷ 46 ∷ 51 ∷ 46 ∷ 52 ∷ []) notDotted ∷
+    textRow (32 ∷ 49 ∷ 46 ∷ 50 ∷ 46 ∷ 51 ∷ 46 ∷ 52 ∷ []) notDotted ∷
     -- "1.2.3.4 "
-    row (49 ∷ 46 ∷ 50 ∷ 46 ∷ 51 ∷ 46 ∷ 52 ∷ 32 ∷ []) notDotted ∷
+    textRow (49 ∷ 46 ∷ 50 ∷ 46 ∷ 51 ∷ 46 ∷ 52 ∷ 32 ∷ []) notDotted ∷
     -- 1 .2.3.4
-    row (49 ∷ 32 ∷ 46 ∷ 50 ∷ 46 ∷ 51 ∷ 46 ∷ 52 ∷ []) notDotted ∷
+    textRow (49 ∷ 32 ∷ 46 ∷ 50 ∷ 46 ∷ 51 ∷ 46 ∷ 52 ∷ []) notDotted ∷
     -- 1.2.3.4.
-    row (49 ∷ 46 ∷ 50 ∷ 46 ∷ 51 ∷ 46 ∷ 52 ∷ 46 ∷ []) notDotted ∷
+    textRow (49 ∷ 46 ∷ 50 ∷ 46 ∷ 51 ∷ 46 ∷ 52 ∷ 46 ∷ []) notDotted ∷
     -- .1.2.3.4
-    row (46 ∷ 49 ∷ 46 ∷ 50 ∷ 46 ∷ 51 ∷ 46 ∷ 52 ∷ []) notDotted ∷
+    textRow (46 ∷ 49 ∷ 46 ∷ 50 ∷ 46 ∷ 51 ∷ 46 ∷ 52 ∷ []) notDotted ∷
     -- 1..2.3
-    row (49 ∷ 46 ∷ 46 ∷ 50 ∷ 46 ∷ 51 ∷ []) notDotted ∷
+    textRow (49 ∷ 46 ∷ 46 ∷ 50 ∷ 46 ∷ 51 ∷ []) notDotted ∷
     -- ...
-    row (46 ∷ 46 ∷ 46 ∷ []) notDotted ∷
+    textRow (46 ∷ 46 ∷ 46 ∷ []) notDotted ∷
     -- 1.2.3.a
-    row (49 ∷ 46 ∷ 50 ∷ 46 ∷ 51 ∷ 46 ∷ 97 ∷ []) notDotted ∷
+    textRow (49 ∷ 46 ∷ 50 ∷ 46 ∷ 51 ∷ 46 ∷ 97 ∷ []) notDotted ∷
     -- 1.2.3.(byte 255)
-    row (49 ∷ 46 ∷ 50 ∷ 46 ∷ 51 ∷ 46 ∷ 255 ∷ []) notDotted ∷
+    textRow (49 ∷ 46 ∷ 50 ∷ 46 ∷ 51 ∷ 46 ∷ 255 ∷ []) notDotted ∷
     -- 1.2.3./
-    row (49 ∷ 46 ∷ 50 ∷ 46 ∷ 51 ∷ 46 ∷ 47 ∷ []) notDotted ∷
+    textRow (49 ∷ 46 ∷ 50 ∷ 46 ∷ 51 ∷ 46 ∷ 47 ∷ []) notDotted ∷
     -- 1.2.3.:
-    row (49 ∷ 46 ∷ 50 ∷ 46 ∷ 51 ∷ 46 ∷ 58 ∷ []) notDotted ∷
+    textRow (49 ∷ 46 ∷ 50 ∷ 46 ∷ 51 ∷ 46 ∷ 58 ∷ []) notDotted ∷
     -- 1,2,3,4
-    row (49 ∷ 44 ∷ 50 ∷ 44 ∷ 51 ∷ 44 ∷ 52 ∷ []) notDotted ∷
+    textRow (49 ∷ 44 ∷ 50 ∷ 44 ∷ 51 ∷ 44 ∷ 52 ∷ []) notDotted ∷
     -- 0.0.0.0
-    row (48 ∷ 46 ∷ 48 ∷ 46 ∷ 48 ∷ 46 ∷ 48 ∷ []) (dottedAs 0 0 0 0) ∷
+    textRow (48 ∷ 46 ∷ 48 ∷ 46 ∷ 48 ∷ 46 ∷ 48 ∷ []) (dottedAs 0 0 0 0) ∷
     -- 1.2.3.4
-    row (49 ∷ 46 ∷ 50 ∷ 46 ∷ 51 ∷ 46 ∷ 52 ∷ []) (dottedAs 1 2 3 4) ∷
+    textRow (49 ∷ 46 ∷ 50 ∷ 46 ∷ 51 ∷ 46 ∷ 52 ∷ []) (dottedAs 1 2 3 4) ∷
     -- 10.0.0.9
-    row (49 ∷ 48 ∷ 46 ∷ 48 ∷ 46 ∷ 48 ∷ 46 ∷ 57 ∷ []) (dottedAs 10 0 0 9) ∷
+    textRow (49 ∷ 48 ∷ 46 ∷ 48 ∷ 46 ∷ 48 ∷ 46 ∷ 57 ∷ []) (dottedAs 10 0 0 9) ∷
     -- 223.255.255.255
-    row (50 ∷ 50 ∷ 51 ∷ 46 ∷ 50 ∷ 53 ∷ 53 ∷ 46 ∷ 50 ∷ 53 ∷ 53 ∷ 46 ∷ 50 ∷ 53 ∷ 53 ∷ []) (dottedAs 223 255 255 255) ∷
+    textRow (50 ∷ 50 ∷ 51 ∷ 46 ∷ 50 ∷ 53 ∷ 53 ∷ 46 ∷ 50 ∷ 53 ∷ 53 ∷ 46 ∷ 50 ∷ 53 ∷ 53 ∷ []) (dottedAs 223 255 255 255) ∷
     -- 224.0.0.0
-    row (50 ∷ 50 ∷ 52 ∷ 46 ∷ 48 ∷ 46 ∷ 48 ∷ 46 ∷ 48 ∷ []) (dottedAs 224 0 0 0) ∷
+    textRow (50 ∷ 50 ∷ 52 ∷ 46 ∷ 48 ∷ 46 ∷ 48 ∷ 46 ∷ 48 ∷ []) (dottedAs 224 0 0 0) ∷
     -- 239.255.255.255
-    row (50 ∷ 51 ∷ 57 ∷ 46 ∷ 50 ∷ 53 ∷ 53 ∷ 46 ∷ 50 ∷ 53 ∷ 53 ∷ 46 ∷ 50 ∷ 53 ∷ 53 ∷ []) (dottedAs 239 255 255 255) ∷
+    textRow (50 ∷ 51 ∷ 57 ∷ 46 ∷ 50 ∷ 53 ∷ 53 ∷ 46 ∷ 50 ∷ 53 ∷ 53 ∷ 46 ∷ 50 ∷ 53 ∷ 53 ∷ []) (dottedAs 239 255 255 255) ∷
     -- 240.0.0.1
-    row (50 ∷ 52 ∷ 48 ∷ 46 ∷ 48 ∷ 46 ∷ 48 ∷ 46 ∷ 49 ∷ []) (dottedAs 240 0 0 1) ∷
+    textRow (50 ∷ 52 ∷ 48 ∷ 46 ∷ 48 ∷ 46 ∷ 48 ∷ 46 ∷ 49 ∷ []) (dottedAs 240 0 0 1) ∷
     -- 255.255.255.255
-    row (50 ∷ 53 ∷ 53 ∷ 46 ∷ 50 ∷ 53 ∷ 53 ∷ 46 ∷ 50 ∷ 53 ∷ 53 ∷ 46 ∷ 50 ∷ 53 ∷ 53 ∷ []) (dottedAs 255 255 255 255) ∷
+    textRow (50 ∷ 53 ∷ 53 ∷ 46 ∷ 50 ∷ 53 ∷ 53 ∷ 46 ∷ 50 ∷ 53 ∷ 53 ∷ 46 ∷ 50 ∷ 53 ∷ 53 ∷ []) (dottedAs 255 255 255 255) ∷
     []
 
 -- each text says what its row tells
 pub record TextsTold : Type 0 where
-  pub told : map (λ (r : Row). dottedOf (r .text)) table ≡ map (λ (r : Row). r .says) table
+  pub told : map (λ (r : TextRow). dottedOf (r .text)) textTable ≡ map (λ (r : TextRow). r .says) textTable

@@ -1,7 +1,7 @@
 -- The theorems of the mechanism. Assumes nothing.
 use Prim.Native.Nat.{ℕ, _≤_}
 use mathlib.Core.Path.{_≡_, refl, sym, ap, _∙_}
-use mathlib.Core.Bool.{Bool, true, false, cond, not, _&&_, _||_}
+use mathlib.Core.Bool.{Bool, true, false, cond, not, _&&_}
 use mathlib.Core.List.{List, [], _∷_, _++_}
 use mathlib.Core.Logic.{_⊎_, inl, inr}
 use native.Mathlib.Omega.{arith}
@@ -10,10 +10,9 @@ use lib.Dec.{eqb}
 use lib.ListN.{length, drop, length-append}
 use Rattle.laws.specs.Decimal.{decimalOf}
 use Rattle.laws.proofs.Conds.{and-left, and-right}
-use Rattle.laws.proofs.Tables.{clash, or-cases, or-neither, or-right}
+use Rattle.laws.proofs.Tables.{or-cases, or-neither, or-right}
 use Rattle.octets.specs.Zeros.{zeros, allZero}
 use Rattle.octets.proofs.Scans.{zeros-of-all}
-use Rattle.octets.specs.Same.{sameBytes}
 use Rattle.octets.proofs.Sames.{same-are, same-refl}
 use Rattle.dotted.specs.Text.{dottedOf, textOf, dottedAs}
 use Rattle.dotted.proofs.Exacts.{dotted-exact}

@@ -1,12 +1,12 @@
 -- The mechanism's tests, case by case. Assumes nothing.
 use Prim.Native.Nat.{ℕ, _+_, _-_, _<_, _≤_}
-use mathlib.Core.Path.{_≡_, refl, sym, ap, _∙_}
+use mathlib.Core.Path.{_≡_, sym, ap, _∙_}
 use mathlib.Core.Bool.{Bool, true, false, cond, not, _&&_, _||_}
-use mathlib.Core.List.{List, [], _∷_, _++_}
+use mathlib.Core.List.{List, _++_}
 use native.Mathlib.Omega.{arith}
-use borrow.Author.Tests.{eq-eqb, ne-eqb, eqb-true, not-false}
-use lib.Dec.{eqb, leb}
-use lib.ListN.{length, take, drop, getD, replicate, length-take, length-drop, take-append-drop}
+use borrow.Author.Tests.{ne-eqb, eqb-true, not-false}
+use lib.Dec.{eqb}
+use lib.ListN.{length, take, drop, replicate, length-take, length-drop, take-append-drop}
 use lib.Seq.{sets, take-all}
 use Rattle.laws.proofs.Stores.{sets-all}
 use Rattle.octets.specs.Numbers.{be16At}

@@ -1,14 +1,12 @@
 -- The mechanism apart from the rest of the device: nothing but 3.14 and a reset touches it, and nothing else looks at it. Assumes nothing.
 use Prim.Native.Nat.{ℕ, zero, suc, _^_}
 use mathlib.Core.Path.{_≡_, refl, sym, ap, _∙_}
-use mathlib.Core.Bool.{Bool, cond, true, false, not, _&&_, _||_, or-false, and-false}
-use mathlib.Core.List.{List, [], _∷_, _++_, map}
-use native.Mathlib.Omega.{arith}
-use borrow.Author.Tests.{eqb-true, not-false}
+use mathlib.Core.Bool.{Bool, cond, true, false, not, _&&_, and-false}
+use mathlib.Core.List.{List, [], _++_, map}
+use borrow.Author.Tests.{eqb-true, eq-eqb}
 use lib.Dec.{eqb, ltb, leb}
 use lib.ListN.{getD, set, take, drop}
 use Rattle.laws.specs.Lists.{all, any, mask}
-use Rattle.laws.proofs.Conds.{cond-right}
 use Rattle.laws.proofs.Tables.{clash}
 use Rattle.heartbeat.specs.declared.Heartbeat.{Heartbeat}
 use Rattle.frame.specs.Limits.{headerEnd, notification, keepAlive, response}
@@ -19,33 +17,31 @@ use Rattle.fields.specs.Fields.{commandOf, heartbeatOf}
 use Rattle.layout.specs.Message as layouts
 use Rattle.mechanism.specs.Arguments.{isUntaken, armedBy}
 use Rattle.mechanism.specs.declared.Mechanism.{Mechanism}
-use Rattle.connection.specs.State.{closed, opened, liveAt, isFree, lowestFree}
+use Rattle.connection.specs.State.{opened, liveAt, isFree, lowestFree}
 use Rattle.connection.specs.Supervision.{fitsStep, closesAt, tickedOf, beatingOf}
 use Rattle.subscription.specs.State.{free, twinAt, lowestUnused, markedOf}
-use Rattle.objects.specs.Methods.{lockMethod, unlockMethod, setMethod, addMethod, removeMethod, resetKeyMethod, placeOf, isManager, isObject, isTelling, isLocking, isMuting, isSubscribing, hasMethod}
-use Rattle.objects.specs.Tests.{isForbidden, isMalformed, entryOf, isEmitterBad, isValueBad}
+use Rattle.objects.specs.Methods.{lockMethod, unlockMethod, setMethod, addMethod, removeMethod, resetKeyMethod, placeOf, hasMethod}
+use Rattle.objects.specs.Tests.{isMalformed, entryOf}
 use Rattle.objects.specs.Answers.{failedOf}
 use Rattle.objects.specs.declared.Answer.{Answer}
 use Rattle.holders.specs.Holders.{ownerOf}
 use Rattle.device.specs.State.{withConnections, withSubscriptions, withHolders, withMechanism, openOf, sweepOf, closeOf, atConnection, heardAt, sentAt, toldAt, beatingAt}
 use Rattle.device.specs.Time.{stepOf, advanced, tickBy, tickOf}
-use Rattle.device.specs.Run.{holderAt, muteAt, isHeldByOther, isSubscribed, isOutOfTurn, isFull, statusOf, mutedOf, doneOf, answerOf, unchanged, ranBy, runOf}
+use Rattle.device.specs.Run.{holderAt, muteAt, isHeldByOther, isSubscribed, isOutOfTurn, isFull, statusOf, mutedOf, doneOf, answerOf, ranBy, runOf}
 use Rattle.device.specs.declared.Device.{Device}
 use Rattle.device.specs.declared.Opened.{Opened}
 use Rattle.device.specs.declared.Opening.the-variants as opens
 use Rattle.device.specs.declared.Ticked.{Ticked}
 use Rattle.device.specs.declared.Ticking.the-variants as ticks
 use Rattle.device.specs.declared.Ran.{Ran}
+use Rattle.device.proofs.Commands.{arm-status}
+use Rattle.device.proofs.Shapes.{arm-at, status-allowed}
 use Rattle.replies.specs.Bytes.{responseBytes, keepAliveBytes}
 use Rattle.serve.specs.Serve.{ranWith, ranFirst, lastOf, responseTo, responsesOf}
 use Rattle.rules.specs.Rule.{Ruled, ruled, commandsOf, beatOf, soundOf}
 use Rattle.promise.specs.Key.{isArming, keyedBy, keyedWith, keyedOver, keyedIn}
 
 -- ---- a command that arms
-arm-status : (d : Device) (n count : ℕ) (part : List ℕ) → statusOf d n 1 resetKeyMethod count part ≡ cond (isMalformed resetKeyMethod count part) 4 (cond (isUntaken part) 7 0)
-unfolding statusOf isObject isManager hasMethod isTelling isLocking isMuting isForbidden isHeldByOther isEmitterBad isSubscribing isValueBad isOutOfTurn isFull
-arm-status d n count part = refl
-
 both-not : (a b : Bool) → (not a && not b) ≡ eqb (cond {A = ℕ} a 4 (cond b 7 0)) 0
 both-not true b = refl
 both-not false true = refl
@@ -68,20 +64,13 @@ and-known false true x f e = f refl
 and-known a false x f e = and-false a
 
 -- with status 0 it is 3.14 of object 1 wherever it is 3.14
-has-method : (d : Device) (n t m count : ℕ) (part : List ℕ) → statusOf d n t m count part ≡ 0 → hasMethod t m ≡ true
-unfolding statusOf
-has-method d n t m count part e =
-    let o = cond-right (not (isObject t)) 5 _ 0 e (λ z. omega arith) .1 in
-    not-false (hasMethod t m) (cond-right (not (hasMethod t m)) 11 _ 0 o (λ z. omega arith) .0)
-
-arm-target : (t m : ℕ) → hasMethod t m ≡ true → eqb m resetKeyMethod ≡ true → eqb t 1 ≡ true
-unfolding hasMethod isTelling isLocking isMuting isSubscribing
-arm-target t m h e = rw (eqb-true m resetKeyMethod e) at h
-
 done-arming : (d : Device) (n t m count : ℕ) (part : List ℕ) → statusOf d n t m count part ≡ 0 → isArming t m count part ≡ eqb m resetKeyMethod
 done-arming d n t m count part e =
     arming d n t m count part
-    ∙ and-known (eqb t 1) (eqb m resetKeyMethod) (eqb (statusOf d n t m count part) 0) (arm-target t m (has-method d n t m count part e)) (ap (λ (s : ℕ). eqb s 0) e)
+    ∙ and-known (eqb t 1) (eqb m resetKeyMethod) (eqb (statusOf d n t m count part) 0) one (ap (λ (s : ℕ). eqb s 0) e)
+  where
+    one : eqb m resetKeyMethod ≡ true → eqb t 1 ≡ true
+    one f = eq-eqb t 1 (arm-at t (ap (hasMethod t) (sym (eqb-true m resetKeyMethod f)) ∙ status-allowed d n t m count part e .method))
 
 -- ---- the device's calls, whatever the mechanism is
 module _ (d : Device) (k : Mechanism) where

@@ -1,16 +1,16 @@
 -- A channel that nobody asks for stays free. Assumes nothing.
-use Prim.Native.Nat.{ℕ, zero, suc, _+_, _-_, _^_, _≤_, _<_}
+use Prim.Native.Nat.{ℕ, zero, suc, _+_, _^_, _≤_, _<_}
 use mathlib.Core.Path.{_≡_, refl, sym, ap, _∙_}
-use mathlib.Core.Bool.{Bool, cond, true, false, not, _&&_, _||_}
+use mathlib.Core.Bool.{Bool, cond, true, false, not, _&&_}
 use mathlib.Core.List.{List, [], _∷_, map}
 use native.Mathlib.Omega.{arith}
 use native.Mathlib.Decide.{decLe}
-use borrow.Author.Tests.{eqb-true, eqb-false, eq-eqb, ne-eqb, not-true, not-false, lt-ltb}
+use borrow.Author.Tests.{eqb-true, eqb-false, eq-eqb, not-true, lt-ltb}
 use lib.Dec.{eqb, ltb, leb}
-use lib.ListN.{length, getD, set, take, drop, replicate, List·getD-map}
+use lib.ListN.{length, getD, set, take, drop, List·getD-map}
 use lib.Seq.{getD-set-same, getD-set-other, set-out}
-use Rattle.laws.specs.Lists.{all, any, mask}
-use Rattle.laws.proofs.Conds.{and-left, and-right, cond-right, either}
+use Rattle.laws.specs.Lists.{all, any}
+use Rattle.laws.proofs.Conds.{and-left, and-right, either}
 use Rattle.laws.proofs.Tables.{clash, or-neither}
 use Rattle.octets.specs.Zeros.{zeros}
 use Rattle.frame.specs.Limits.{headerEnd, notification}
@@ -19,21 +19,20 @@ use Rattle.frame.specs.Entry.{entrySize}
 use Rattle.frame.specs.Decide.{decide}
 use Rattle.frame.specs.declared.Decision.{Decision}
 use Rattle.frame.specs.declared.Decision.the-variants.{Undecided, Faulty, Sound}
-use Rattle.fields.specs.Place.{parametersOf}
-use Rattle.fields.specs.Fields.{commandOf, heartbeatOf}
+use Rattle.fields.specs.Fields.{commandOf}
 use Rattle.area.specs.Area.{areaBytes}
 use Rattle.mechanism.specs.Arguments.{armedBy}
 use Rattle.mechanism.specs.Datagram as datagrams
 use Rattle.connection.specs.State.{connectionCount, liveAt, isFree, lowestDue}
-use Rattle.connection.specs.Supervision.{fitsStep, closesAt, tickedOf}
+use Rattle.connection.specs.Supervision.{fitsStep}
 use Rattle.connection.specs.declared.Connection.{Connection}
 use Rattle.subscription.specs.State.{entryCount, free, isMute, twinAt, lowestUnused, lowestWaiting}
-use Rattle.objects.specs.Methods.{methodNumber, lockMethod, unlockMethod, setMethod, addMethod, removeMethod, resetKeyMethod, placeOf, isManager, isObject, isLocking, hasMethod}
-use Rattle.objects.specs.Tests.{isForbidden, isMalformed, entryOf}
+use Rattle.objects.specs.Methods.{lockMethod, unlockMethod, setMethod, addMethod, removeMethod, resetKeyMethod, placeOf, isObject, isLocking}
+use Rattle.objects.specs.Tests.{isForbidden, entryOf}
 use Rattle.objects.specs.Answers.{failedOf, toldOf}
 use Rattle.holders.specs.Holders.{ownerOf, isOther, holderObeys, sweptHolder}
-use Rattle.device.specs.State.{muteCount, freshOf, withConnections, withSubscriptions, withHolders, withMechanism, openOf, sweepOf, closeOf, heardAt, sentAt, toldAt, beatingAt}
-use Rattle.device.specs.Time.{stepOf, advanced, tickBy, tickOf}
+use Rattle.device.specs.State.{muteCount, freshOf, withSubscriptions, withHolders, withMechanism, openOf, sweepOf, closeOf, heardAt, sentAt, toldAt, beatingAt}
+use Rattle.device.specs.Time.{stepOf, tickBy, tickOf}
 use Rattle.device.specs.Run.{muteAt, statusOf, mutedOf, doneOf, answerOf, unchanged, ranBy}
 use Rattle.device.specs.Run as commands
 use Rattle.device.specs.declared.Device.{Device}
@@ -45,15 +44,15 @@ use Rattle.device.specs.declared.Ticking.{Ticking}
 use Rattle.device.specs.declared.Ticking.the-variants as ticks
 use Rattle.device.specs.declared.Ran.{Ran}
 use Rattle.device.proofs.Closures.{free-locks}
-use Rattle.device.proofs.Shapes.{target-is}
+use Rattle.device.proofs.Shapes.{target-is, status-allowed}
 use Rattle.device.proofs.Commands.{lock-other, lock-done}
 use Rattle.serve.specs.Serve.{ranWith, ranFirst, lastOf}
 use Rattle.rules.specs.Rule.{Ruled, commandsOf, beatOf, soundOf}
-use Rattle.stream.specs.Machine.{Call, deliver, ask, message, asked, none-held, glue, rules}
+use Rattle.stream.specs.Machine.{Call, ask, message, asked, none-held, glue, rules}
 use Rattle.stream.specs.Promise.{AllBytes}
 use Rattle.stream.specs.Lent.{flat, counted}
 use Rattle.endpoint.specs.State.{stateOf, freshState}
-use Rattle.endpoint.specs.Numbers.{Outcome, outcome}
+use Rattle.endpoint.specs.Numbers.{Outcome}
 use Rattle.endpoint.specs.Deliver.{leastOutput}
 use Rattle.endpoint.specs.Take.{notifiedOf, sentOut, notifying, reminding, takenBy}
 use Rattle.reset.specs.Datagram.{datagramCall}
@@ -63,6 +62,7 @@ use Rattle.promise.specs.Rules.{Ask, opening, closing, ticking, taking, 
 use Rattle.promise.specs.Stream.{runOf, machine}
 use Rattle.promise.specs.Technician.{lockStatus}
 use Rattle.promise.specs.Reset.{asksWith, asksOver, asksIn, asksFor, nobodyAsks, aReset, RackFreeAgain}
+use Rattle.promise.proofs.Lives.{getD-alike}
 use Rattle.promise.proofs.Keeps.{stream-theorem}
 use Rattle.promise.proofs.Resets.{leaves, anew}
 use Rattle.promise.proofs.Technicians.{locked-out}
@@ -90,13 +90,10 @@ unlocked-free hs p at e = go (eqb at p) refl
 -- ---- a command
 -- a lock with status 0 is that of a mute
 lock-mute : (d : Device) (n t count : ℕ) (part : List ℕ) → statusOf d n t lockMethod count part ≡ 0 → isMute t ≡ true
-unfolding statusOf isForbidden isObject isLocking
+unfolding isForbidden isObject isLocking
 lock-mute d n t count part e =
-    let o = cond-right (not (isObject t)) 5 _ 0 e (λ z. omega arith) in
-    let h = cond-right (not (hasMethod t lockMethod)) 11 _ 0 (o .1) (λ z. omega arith) in
-    let f = cond-right (isForbidden t lockMethod) 8 _ 0 (h .1) (λ z. omega arith) .0 in
-    let m : (isManager t || isMute t) ≡ true = not-false (isObject t) (o .0) in
-    rw f at m
+    let a = status-allowed d n t lockMethod count part e in
+    rw (a .allowed) at (a .object)
 
 module _ (d : Device) (at : ℕ) (e : getD (d .holders) at 0 ≡ 0) where
   done-free : (n t m count : ℕ) (part : List ℕ) → statusOf d n t m count part ≡ 0 → (eqb t (4097 + at) && eqb m lockMethod) ≡ false → getD (doneOf d n t m part .holders) at 0 ≡ 0
@@ -170,12 +167,7 @@ sound-free d at n m e a =
 -- ---- a call
 fresh-free : (reading at : ℕ) → getD (freshOf reading .holders) at 0 ≡ 0
 unfolding freshOf
-fresh-free reading at = zeros-at muteCount at
-  where
-    zeros-at : (n i : ℕ) → _≡_ {A = ℕ} (getD (replicate n 0) i 0) 0
-    zeros-at zero i = refl
-    zeros-at (suc n) zero = refl
-    zeros-at (suc n) (suc i) = zeros-at n i
+fresh-free reading at = getD-alike 0 muteCount at
 
 whole-free : (d : Device) (at : ℕ) (w : Asked) → getD (d .holders) at 0 ≡ 0 → asksFor at w ≡ false → getD (rule d w .0 .holders) at 0 ≡ 0
 unfolding rule asksFor asksIn messageBy openBy closeBy ruling.tickBy takeBy resetBy takenBy notifying reminding sentOut notifiedOf sentAt toldAt openOf closeOf sweepOf tickBy

@@ -1,13 +1,12 @@
 -- The latest key counts, and the key stays inside. Assumes nothing.
-use Prim.Native.Nat.{ℕ, zero, suc, _+_, _-_}
+use Prim.Native.Nat.{ℕ, zero, suc, _+_}
 use mathlib.Core.Path.{_≡_, refl, sym, ap, _∙_, subst}
 use mathlib.Core.Bool.{Bool, cond, true, false, not, _&&_}
 use mathlib.Core.List.{List, [], _∷_, _++_, map}
 use borrow.Author.Tests.{not-true}
-use lib.Dec.{eqb, ltb}
+use lib.Dec.{ltb}
 use lib.ListN.{length, getD, set, take, drop}
-use Rattle.laws.proofs.Conds.{and-left, and-right, either}
-use Rattle.laws.proofs.Tables.{clash}
+use Rattle.laws.proofs.Conds.{and-left, and-right}
 use Rattle.frame.specs.Limits.{headerEnd, notification}
 use Rattle.frame.specs.Header.{pduType, messageCount}
 use Rattle.frame.specs.Entry.{entrySize}
@@ -17,7 +16,7 @@ use Rattle.frame.specs.declared.Decision.the-variants.{Undecided, Faulty, Sound
 use Rattle.fields.specs.Place.{parametersOf}
 use Rattle.fields.specs.Fields.{commandOf}
 use Rattle.fields.specs.declared.CommandFields.{CommandFields}
-use Rattle.area.specs.Area.{areaSound, undecidedOf, heldObeys}
+use Rattle.area.specs.Area.{areaSound, undecidedOf}
 use Rattle.mechanism.specs.State.{disarmed, withKey}
 use Rattle.mechanism.specs.Arguments.{armedBy}
 use Rattle.mechanism.specs.Rules.{mechanismObeys}
@@ -40,7 +39,7 @@ use Rattle.device.specs.declared.Ticking.{Ticking}
 use Rattle.device.specs.declared.Ticking.the-variants as ticks
 use Rattle.device.specs.declared.Ran.{Ran}
 use Rattle.rules.specs.Rule.{Ruled, soundOf}
-use Rattle.stream.specs.Machine.{Call, deliver, ask, Whole, message, asked, Held, glue, rules, answers}
+use Rattle.stream.specs.Machine.{Call, deliver, ask, message, asked, Held, glue, rules}
 use Rattle.stream.specs.Promise.{AllBytes}
 use Rattle.stream.specs.Lent.{flat, counted}
 use Rattle.endpoint.specs.State.{stateOf, livesIn, recordObeys, closedState}
@@ -53,7 +52,7 @@ use Rattle.endpoint.specs.declared.Record.{Record}
 use Rattle.promise.specs.Rules as ruling
 use Rattle.promise.specs.Rules.{Ask, opening, closing, ticking, taking, datagram, Asked, Given, messageBy, openBy, closeBy, takeBy, resetBy, rule, shut, callOf}
 use Rattle.promise.specs.Stream.{runOf, machine, GoodState}
-use Rattle.promise.specs.Key.{isArming, keyedBy, keyedWith, keyedOver, keyedIn, keyedMessage, latest, latestOver, LatestKeyCounts, rekeyed, AlikeButKey, Seen, seen, isNoReset, noReset, KeyStaysInside}
+use Rattle.promise.specs.Key.{isArming, keyedBy, keyedWith, keyedOver, keyedIn, keyedMessage, latest, latestOver, LatestKeyCounts, AlikeButKey, Seen, seen, isNoReset, noReset, KeyStaysInside}
 use Rattle.promise.proofs.Frames.{arming, close-frame, open-frame, tick-frame, run-frame, sound-frame}
 use Rattle.promise.proofs.Keeps.{stream-theorem}
 
@@ -169,6 +168,10 @@ follow-cond : (b : Bool) (o p o' p' : Outcome) → Follows o p → Follows o' p'
 follow-cond true o p o' p' f g = f
 follow-cond false o p o' p' f g = g
 
+-- a call that is lent no area, and what is handed on of its output
+within : (f : List ℕ → List ℕ) {o p : Outcome} → Follows o p → (x : List ℕ) → Follows (outcome (o .answer) (o .state) x (f (o .output))) (outcome (p .answer) (p .state) x (f (p .output)))
+within f w x = record { shown = ap (λ (s : Seen). record { answer = s .answer; area = x; output = f (s .output) }) (w .shown); kept = w .kept }
+
 -- records that differ in an alike mechanism alone
 abbrev holding : Device → List ℕ → Mechanism → Record
 holding d held m = stateOf (withMechanism d m) held
@@ -272,16 +275,10 @@ module _ (d : Device) (held : List ℕ) (a b : Mechanism) (w : Alike a b) where
   call-follows : (area : List ℕ) (c : Call Ask (List ℕ)) → isNoReset (holding d held a) (holding d held b) c ≡ true → Follows (callOf (holding d held a) area c) (callOf (holding d held b) area c)
   unfolding callOf isNoReset
   call-follows area (deliver n piece out) e = deliver-follows area n piece out
-  call-follows area (ask opening) e = within open-follows area
-    where
-      within : {o p : Outcome} → Follows o p → (x : List ℕ) → Follows (outcome (o .answer) (o .state) x []) (outcome (p .answer) (p .state) x [])
-      within f x = record { shown = ap (λ (s : Seen). record { answer = s .answer; area = x; output = [] }) (f .shown); kept = f .kept }
+  call-follows area (ask opening) e = within (λ (l : List ℕ). []) open-follows area
   call-follows area (ask (closing n)) e = close-follows area n
   call-follows area (ask (ticking reading)) e = tick-follows area reading
-  call-follows area (ask (taking out)) e = within (take-follows out) area
-    where
-      within : {o p : Outcome} → Follows o p → (x : List ℕ) → Follows (outcome (o .answer) (o .state) x (o .output)) (outcome (p .answer) (p .state) x (p .output))
-      within f x = record { shown = ap (λ (s : Seen). record { answer = s .answer; area = x; output = s .output }) (f .shown); kept = f .kept }
+  call-follows area (ask (taking out)) e = within (λ (l : List ℕ). l) (take-follows out) area
   call-follows area (ask (datagram g)) e = datagram-follows area g e
 
 -- from two records that are alike but for their keys

@@ -11,3 +11,4 @@ pub mod Frames
 pub mod Keys
 pub mod Resets
 pub mod Frees
+pub mod Worked

@@ -142,12 +142,13 @@ lives-eight e q = ext-getD false (livesOf (open? e) 8) (livesIn e) (sizes (lengt
     at : (t : ℕ → Bool) (n i : ℕ) → i < n → getD (livesOf t n) i false ≡ t i
     at t n i l = getD-lives-of t n i l
 
+-- a list of one value has it everywhere
+pub getD-alike : {A : Type 0} (x : A) (n i : ℕ) → getD (replicate n x) i x ≡ x
+getD-alike x zero i = refl
+getD-alike x (suc n) zero = refl
+getD-alike x (suc n) (suc i) = getD-alike x n i
+
 -- of a fresh device no connection is open
 pub fresh-shut : (reading k : ℕ) → liveAt (freshOf reading .connections) k ≡ false
 unfolding freshOf liveAt
-fresh-shut reading k = ap (λ (c : Connection). c .live) (getD-same connectionCount k)
-  where
-    getD-same : (n i : ℕ) → getD (replicate n closed) i closed ≡ closed
-    getD-same zero i = refl
-    getD-same (suc n) zero = refl
-    getD-same (suc n) (suc i) = getD-same n i
+fresh-shut reading k = ap (λ (c : Connection). c .live) (getD-alike closed connectionCount k)

@@ -1,35 +1,28 @@
 -- A reset by key: exactly when, what it leaves, and what follows. Assumes nothing.
-use Prim.Native.Nat.{ℕ, zero, suc, _+_, _<_}
+use Prim.Native.Nat.{ℕ}
 use mathlib.Core.Path.{_≡_, refl, sym, ap, _∙_, fun-ext}
-use mathlib.Core.Bool.{Bool, cond, true, false, not, _&&_}
-use mathlib.Core.List.{List, [], _∷_, _++_}
-use native.Mathlib.Omega.{arith}
-use borrow.Author.Tests.{lt-ltb, eqb-true, eqb-false, eq-eqb, ne-eqb}
-use lib.Dec.{eqb, ltb}
-use lib.ListN.{length, getD, set, replicate}
-use lib.Seq.{getD-set-same}
+use mathlib.Core.Bool.{Bool, true, false}
+use mathlib.Core.List.{List, [], _∷_}
+use borrow.Author.Tests.{eq-eqb}
+use lib.Dec.{eqb}
+use lib.ListN.{getD}
 use Rattle.laws.proofs.Tables.{clash}
 use Rattle.octets.specs.Zeros.{zeros}
 use Rattle.area.specs.Area.{areaBytes, areaSound}
 use Rattle.mechanism.specs.State.{disarmed}
 use Rattle.mechanism.specs.Datagram as datagrams
-use Rattle.mechanism.specs.Datagram.{sentinel}
 use Rattle.mechanism.specs.declared.Mechanism.{Mechanism}
 use Rattle.mechanism.proofs.Kept.{resets-exactly}
-use Rattle.connection.specs.State.{liveAt}
-use Rattle.objects.specs.Methods.{lockMethod}
 use Rattle.device.specs.State.{freshOf}
-use Rattle.device.specs.Run as commands
 use Rattle.device.specs.declared.Device.{Device}
 use Rattle.stream.specs.Machine.{Call, ask, Held, none-held, only, whole, step}
-use Rattle.endpoint.specs.State.{stateOf, freshState, recordObeys}
+use Rattle.endpoint.specs.State.{freshState, recordObeys}
 use Rattle.endpoint.specs.Numbers.{badRecord, badArea, Outcome, outcome, refused}
 use Rattle.reset.specs.Datagram.{restarted, datagramCall}
 use Rattle.endpoint.specs.declared.Record.{Record}
 use Rattle.promise.specs.Rules.{Ask, datagram, rule, open?, admit, resetBy, callOf}
 use Rattle.promise.specs.Stream.{runOf}
-use Rattle.promise.specs.Technician.{lockStatus}
-use Rattle.promise.specs.Reset.{Matches, aReset, ResetByKey, RackFreeAgain}
+use Rattle.promise.specs.Reset.{Matches, aReset, ResetByKey}
 use Rattle.promise.proofs.Lives.{fresh-shut}
 
 module _ (r : Record) (area g : List ℕ) where

@@ -2,7 +2,7 @@
 -- closure leaves it".
 use Prim.Native.Nat.{ℕ, zero, suc}
 use mathlib.Core.Path.{_≡_}
-use mathlib.Core.Bool.{Bool, cond, true, false, not, _&&_}
+use mathlib.Core.Bool.{Bool, cond, true, not, _&&_}
 use mathlib.Core.List.{List, [], _∷_, map}
 use lib.ListN.{take, drop}
 use lib.Dec.{eqb, ltb}

@@ -27,7 +27,7 @@ use Rattle.device.specs.declared.Device.{Device}
 use Rattle.stream.specs.Machine.{Call, ask, message, asked, Held, none-held, step, glue}
 use Rattle.stream.specs.Promise.{AllBytes}
 use Rattle.endpoint.specs.State.{freshState, recordObeys}
-use Rattle.endpoint.specs.Numbers.{badRecord, badArea, Outcome, outcome, refused}
+use Rattle.endpoint.specs.Numbers.{badRecord, badArea, outcome, refused}
 use Rattle.reset.specs.Datagram.{restarted, datagramCall}
 use Rattle.endpoint.specs.declared.Record.{Record}
 use Rattle.promise.specs.Rules.{Ask, datagram, Asked, rule, open?, admit, shut}

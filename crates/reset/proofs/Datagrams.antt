@@ -1,6 +1,6 @@
 -- The datagram call, case by case. Assumes nothing.
 use Prim.Native.Nat.{ℕ}
-use mathlib.Core.Path.{_≡_, refl, sym, ap, _∙_}
+use mathlib.Core.Path.{_≡_, sym, ap, _∙_}
 use mathlib.Core.Bool.{Bool, true, false, not}
 use mathlib.Core.List.{List, [], _∷_}
 use native.Mathlib.Omega.{arith}
@@ -14,7 +14,7 @@ use Rattle.octets.proofs.Scans.{length-zeros}
 use Rattle.mechanism.specs.Datagram.{resets}
 use Rattle.area.specs.Area.{areaBytes, areaSound}
 use Rattle.endpoint.specs.State.{freshState, recordObeys}
-use Rattle.endpoint.specs.Numbers.{badRecord, badArea, Outcome, outcome, refused}
+use Rattle.endpoint.specs.Numbers.{badRecord, badArea, outcome, refused}
 use Rattle.endpoint.specs.declared.Record.{Record}
 use Rattle.endpoint.proofs.States.{area-long}
 use Rattle.reset.specs.Datagram.{restarted, datagramCall}

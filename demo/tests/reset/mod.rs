@@ -304,7 +304,8 @@ fn the_controller_arms_in_words() {
     // the wrong key is seen by what is not closed; that takes its time
     let next = session.obey(script::parse(&typed).unwrap()).unwrap();
     assert_eq!(next, Next::Quit);
-    let refused = "status 7 (mode not 1, mute not 1 or 2, or a text or port that 3.14 does not take)";
+    let refused =
+        "status 7 (mode not 1, mute not 1 or 2, or a text or port that 3.14 does not take)";
     for line in [
         format!("tablet: arm {port} 10.0.0.1: {refused}"),
         format!("tablet: arm 0: {refused}"),
