@@ -12,8 +12,8 @@ use Rattle.heartbeat.specs.Beat.{formOf, beatOf}
 use Rattle.heartbeat.specs.declared.Heartbeat.{Heartbeat}
 use Rattle.heartbeat.specs.declared.Heartbeat.the-variants.{InSeconds, InMilliseconds}
 use Rattle.connection.specs.State.{closed, opened}
-use Rattle.connection.specs.Rules.{isClosed, isIdle, formObeys, isTimed, connectionObeys}
-use Rattle.connection.specs.Supervision.{fitsStep, closesAt, counted, quietAfter, tickedOf, heardOf, sentOf, supervised, setBeat, beatingOf, heartbeatOf}
+use Rattle.connection.specs.Obeys.{isClosed, isIdle, formObeys, isTimed, connectionObeys}
+use Rattle.connection.specs.Supervision.{fitsStep, closesAt, counted, quietAfter, connectionTicked, heardOf, sentOf, supervised, setBeat, beatingOf, heartbeatKept}
 use Rattle.connection.specs.Kept.{fitsForm, SupervisionKept}
 use Rattle.connection.specs.declared.Connection.{Connection}
 use Rattle.connection.proofs.Times.{obeys-bound}
@@ -127,21 +127,21 @@ quiet-keeps step c t = go (c .due) refl (leb (c .beat) (c .quiet + step)) refl
     go false d false e =
         timed-obeys _ (record { live = t .live; nz = t .nz; early = t .early; quiet = leb-false _ _ e; due = refl; form = t .form })
 
-ticking : (step : ℕ) (c : Connection) → connectionObeys c ≡ true → connectionObeys (tickedOf step c) ≡ true
-unfolding tickedOf closesAt formObeys
+ticking : (step : ℕ) (c : Connection) → connectionObeys c ≡ true → connectionObeys (connectionTicked step c) ≡ true
+unfolding connectionTicked closesAt formObeys
 ticking step c h = ⊎-elim still timed (obeys-view c h)
   where
-    still : Still c → connectionObeys (tickedOf step c) ≡ true
+    still : Still c → connectionObeys (connectionTicked step c) ≡ true
     still s = rw (eq-eqb (c .beat) 0 (s .beat)) h
 
-    late : Timed c → (k : Bool) → leb (3 * c .beat) (c .silence + step) ≡ k → connectionObeys (tickedOf step c) ≡ true
+    late : Timed c → (k : Bool) → leb (3 * c .beat) (c .silence + step) ≡ k → connectionObeys (connectionTicked step c) ≡ true
     late t true k = rw (t .nz, k) shut
     late t false k =
         rw (t .nz, k)
         (quiet-keeps step (counted c (c .silence + step) (c .quiet) (c .due))
         (record { live = t .live; nz = t .nz; early = leb-false _ _ k; quiet = t .quiet; due = t .due; form = t .form }))
 
-    timed : Timed c → connectionObeys (tickedOf step c) ≡ true
+    timed : Timed c → connectionObeys (connectionTicked step c) ≡ true
     timed t = late t (leb (3 * c .beat) (c .silence + step)) refl
 
 -- ---- heard and sent
@@ -183,8 +183,8 @@ beating h c k l = go (eqb (beatOf h) 0) refl
         let q : 0 < beatOf h = omega arith in
         timed-obeys _ (record { live = l; nz = z; early = e; quiet = q; due = refl; form = sets-form h c k })
 
-telling : (h : Heartbeat) (c : Connection) → eqb (beatOf h) 0 ≡ false → heartbeatOf (beatingOf h c) ≡ h
-unfolding heartbeatOf beatingOf setBeat heardOf sentOf formOf beatOf
+telling : (h : Heartbeat) (c : Connection) → eqb (beatOf h) 0 ≡ false → heartbeatKept (beatingOf h c) ≡ h
+unfolding heartbeatKept beatingOf setBeat heardOf sentOf formOf beatOf
 telling (InSeconds s) c z =
     let e : s .0 * 1000 / 1000 ≡ s .0 = omega arith in
     rw (z, e)
@@ -204,11 +204,11 @@ fitting step c b h =
     both : c .silence + step ≤ 18446744073709551615 → c .quiet + step ≤ 18446744073709551615 → fitsStep step c ≡ true
     both s q = and-both _ _ (le-leb (c .silence + step) 18446744073709551615 s) (le-leb (c .quiet + step) 18446744073709551615 q)
 
-leaving : (step : ℕ) (c : Connection) → tickedOf step c .live ≡ (c .live && not (closesAt step c))
-unfolding tickedOf closesAt quietAfter
+leaving : (step : ℕ) (c : Connection) → connectionTicked step c .live ≡ (c .live && not (closesAt step c))
+unfolding connectionTicked closesAt quietAfter
 leaving step c = go (eqb (c .beat) 0) refl (leb (3 * c .beat) (c .silence + step)) refl (c .due) refl (leb (c .beat) (c .quiet + step)) refl (c .live) refl
   where
-    go : (z : Bool) → eqb (c .beat) 0 ≡ z → (k : Bool) → leb (3 * c .beat) (c .silence + step) ≡ k → (d : Bool) → c .due ≡ d → (q : Bool) → leb (c .beat) (c .quiet + step) ≡ q → (l : Bool) → c .live ≡ l → tickedOf step c .live ≡ (c .live && not (closesAt step c))
+    go : (z : Bool) → eqb (c .beat) 0 ≡ z → (k : Bool) → leb (3 * c .beat) (c .silence + step) ≡ k → (d : Bool) → c .due ≡ d → (q : Bool) → leb (c .beat) (c .quiet + step) ≡ q → (l : Bool) → c .live ≡ l → connectionTicked step c .live ≡ (c .live && not (closesAt step c))
     go true z k e d f q g true l = rw (z, l)
     go true z k e d f q g false l = rw (z, l)
     go false z true e d f q g true l = rw (z, e, l)
@@ -220,11 +220,11 @@ leaving step c = go (eqb (c .beat) 0) refl (leb (3 * c .beat) (c .silence + step
     go false z false e false f false g true l = rw (z, e, f, g, l)
     go false z false e false f false g false l = rw (z, e, f, g, l)
 
-counting : (step : ℕ) (c : Connection) → eqb (c .beat) 0 ≡ false → closesAt step c ≡ false → (tickedOf step c .silence ≡ c .silence + step) × (tickedOf step c .beat ≡ c .beat)
-unfolding tickedOf quietAfter
+counting : (step : ℕ) (c : Connection) → eqb (c .beat) 0 ≡ false → closesAt step c ≡ false → (connectionTicked step c .silence ≡ c .silence + step) × (connectionTicked step c .beat ≡ c .beat)
+unfolding connectionTicked quietAfter
 counting step c z k = go (c .due) refl (leb (c .beat) (c .quiet + step)) refl
   where
-    go : (d : Bool) → c .due ≡ d → (q : Bool) → leb (c .beat) (c .quiet + step) ≡ q → (tickedOf step c .silence ≡ c .silence + step) × (tickedOf step c .beat ≡ c .beat)
+    go : (d : Bool) → c .due ≡ d → (q : Bool) → leb (c .beat) (c .quiet + step) ≡ q → (connectionTicked step c .silence ≡ c .silence + step) × (connectionTicked step c .beat ≡ c .beat)
     go true d q e = (rw (z, k, d), rw (z, k, d))
     go false d true e = (rw (z, k, d, e), rw (z, k, d, e))
     go false d false e = (rw (z, k, d, e), rw (z, k, d, e))

@@ -16,9 +16,9 @@ use Rattle.heartbeat.specs.Beat.{formOf, beatOf}
 use Rattle.heartbeat.specs.declared.Seconds.{Seconds}
 use Rattle.heartbeat.specs.declared.Heartbeat.{Heartbeat}
 use Rattle.heartbeat.specs.declared.Heartbeat.the-variants.{InSeconds}
-use Rattle.connection.specs.State.{closed, liveAt, isFree, isDue}
-use Rattle.connection.specs.Rules.{isClosed, isIdle, formObeys, isTimed, connectionObeys}
-use Rattle.connection.specs.Supervision.{fitsStep, closesAt, counted, quietAfter, tickedOf, supervised, setBeat, heartbeatOf}
+use Rattle.connection.specs.State.{closed, liveAt, isNotOpen, isDue}
+use Rattle.connection.specs.Obeys.{isClosed, isIdle, formObeys, isTimed, connectionObeys}
+use Rattle.connection.specs.Supervision.{fitsStep, closesAt, counted, quietAfter, connectionTicked, supervised, setBeat, heartbeatKept}
 use Rattle.connection.specs.declared.Connection.{Connection}
 
 -- ---- tests
@@ -38,8 +38,8 @@ third-late b x = go (leb (3 * b) x) refl
     go true e = le-leb b (x / 3) (omega (arith, leb-true (3 * b) x e))
     go false e = lt-leb b (x / 3) (omega (arith, leb-false (3 * b) x e))
 
-pub free-is : (c : Connection) (t : Bool) → not (c .live) ≡ t → isFree c ≡ t
-unfolding isFree
+pub free-is : (c : Connection) (t : Bool) → not (c .live) ≡ t → isNotOpen c ≡ t
+unfolding isNotOpen
 free-is c t e = e
 
 pub due-is : (c : Connection) (t : Bool) → c .due ≡ t → isDue c ≡ t
@@ -108,17 +108,17 @@ module _ (step : ℕ) (c : Connection) where
   unfolding quietAfter
   quiet-more d h = rw (d, lt-leb _ _ h)
 
-  pub tick-zero : c .beat ≡ 0 → c ≡ tickedOf step c
-  unfolding tickedOf
+  pub tick-zero : c .beat ≡ 0 → c ≡ connectionTicked step c
+  unfolding connectionTicked
   tick-zero e = rw (eq-eqb (c .beat) 0 e)
 
   module _ {b : Bool} (n : c .beat ≡ 0 → ⊥) (q : b ≡ closesAt step c) where
-    pub tick-closed : b ≡ true → closed ≡ tickedOf step c
-    unfolding tickedOf
+    pub tick-closed : b ≡ true → closed ≡ connectionTicked step c
+    unfolding connectionTicked
     tick-closed t = rw (ne-eqb (c .beat) 0 n, ← q, t)
 
-    pub tick-stays : b ≡ false → (r : Connection) → r ≡ quietAfter step (counted c (c .silence + step) (c .quiet) (c .due)) → r ≡ tickedOf step c
-    unfolding tickedOf
+    pub tick-stays : b ≡ false → (r : Connection) → r ≡ quietAfter step (counted c (c .silence + step) (c .quiet) (c .due)) → r ≡ connectionTicked step c
+    unfolding connectionTicked
     tick-stays t r e = rw (ne-eqb (c .beat) 0 n, ← q, t) e
 
 -- ---- a heartbeat
@@ -178,6 +178,6 @@ beat-fits c h = obeys-bound c h .beat
 pub seconds-fit : (c : Connection) → connectionObeys c ≡ true → c .form ≡ 1 → c .beat ≤ 65535999
 seconds-fit c h e = omega (arith, obeys-bound c h .seconds e)
 
-pub told-seconds : (c : Connection) (s : Seconds) → c .form ≡ 1 → s .0 ≡ c .beat / 1000 → InSeconds s ≡ heartbeatOf c
-unfolding heartbeatOf
+pub told-seconds : (c : Connection) (s : Seconds) → c .form ≡ 1 → s .0 ≡ c .beat / 1000 → InSeconds s ≡ heartbeatKept c
+unfolding heartbeatKept
 told-seconds c s f e = rw (eq-eqb (c .form) 1 f, ← e)

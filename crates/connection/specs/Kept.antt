@@ -7,8 +7,8 @@ use Rattle.heartbeat.specs.Beat.{beatOf}
 use Rattle.heartbeat.specs.declared.Heartbeat.{Heartbeat}
 use Rattle.heartbeat.specs.declared.Heartbeat.the-variants.{InSeconds, InMilliseconds}
 use Rattle.connection.specs.State.{closed, opened}
-use Rattle.connection.specs.Rules.{topMilliseconds, connectionObeys}
-use Rattle.connection.specs.Supervision.{fitsStep, closesAt, tickedOf, heardOf, sentOf, beatingOf, heartbeatOf}
+use Rattle.connection.specs.Obeys.{topMilliseconds, connectionObeys}
+use Rattle.connection.specs.Supervision.{fitsStep, closesAt, connectionTicked, heardOf, sentOf, beatingOf, heartbeatKept}
 use Rattle.connection.specs.declared.Connection.{Connection}
 
 -- the value fits its kind: "2 bytes of seconds, or 4 bytes of milliseconds"
@@ -20,15 +20,15 @@ pub record SupervisionKept : Type 0 where
   -- the record rules
   pub shut : connectionObeys closed ≡ true
   pub fresh : connectionObeys opened ≡ true
-  pub ticking : (step : ℕ) (c : Connection) → connectionObeys c ≡ true → connectionObeys (tickedOf step c) ≡ true
+  pub ticking : (step : ℕ) (c : Connection) → connectionObeys c ≡ true → connectionObeys (connectionTicked step c) ≡ true
   pub hearing : (c : Connection) → connectionObeys c ≡ true → connectionObeys (heardOf c) ≡ true
   pub sending : (c : Connection) → connectionObeys c ≡ true → connectionObeys (sentOf c) ≡ true
   pub beating : (h : Heartbeat) (c : Connection) → fitsForm h ≡ true → c .live ≡ true → connectionObeys (beatingOf h c) ≡ true
   -- a connection that obeys takes any step that row 6 lets pass
   pub fitting : (step : ℕ) (c : Connection) → step < 2 ^ 31 → connectionObeys c ≡ true → fitsStep step c ≡ true
   -- a tick closes exactly what it says
-  pub leaving : (step : ℕ) (c : Connection) → tickedOf step c .live ≡ (c .live && not (closesAt step c))
+  pub leaving : (step : ℕ) (c : Connection) → connectionTicked step c .live ≡ (c .live && not (closesAt step c))
   -- a tick that leaves a supervised connection open adds the step to its silence and keeps its H
-  pub counting : (step : ℕ) (c : Connection) → eqb (c .beat) 0 ≡ false → closesAt step c ≡ false → (tickedOf step c .silence ≡ c .silence + step) × (tickedOf step c .beat ≡ c .beat)
+  pub counting : (step : ℕ) (c : Connection) → eqb (c .beat) 0 ≡ false → closesAt step c ≡ false → (connectionTicked step c .silence ≡ c .silence + step) × (connectionTicked step c .beat ≡ c .beat)
   -- "in the same form with the same value": what a due keep-alive carries is what was set
-  pub telling : (h : Heartbeat) (c : Connection) → eqb (beatOf h) 0 ≡ false → heartbeatOf (beatingOf h c) ≡ h
+  pub telling : (h : Heartbeat) (c : Connection) → eqb (beatOf h) 0 ≡ false → heartbeatKept (beatingOf h c) ≡ h

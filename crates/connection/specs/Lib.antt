@@ -1,4 +1,4 @@
 pub mod State
-pub mod Rules
+pub mod Obeys
 pub mod Supervision
 pub mod Kept

@@ -20,15 +20,15 @@ opened = record { live = true; form = 0; beat = 0; silence = 0; quiet = 0; due =
 unfoldable pub liveAt : List Connection → ℕ → Bool
 liveAt cs n = getD cs n closed .live
 
-unfoldable pub isFree : Connection → Bool
-isFree c = not (c .live)
+unfoldable pub isNotOpen : Connection → Bool
+isNotOpen c = not (c .live)
 
 unfoldable pub isDue : Connection → Bool
 isDue c = c .due
 
 -- "the lowest free number", or 8
 abbrev pub lowestFree : List Connection → ℕ
-lowestFree cs = index isFree cs
+lowestFree cs = index isNotOpen cs
 
 -- "the lowest connection due", or 8
 abbrev pub lowestDue : List Connection → ℕ

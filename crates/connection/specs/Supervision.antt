@@ -33,8 +33,8 @@ quietAfter step c =
     (counted c (c .silence) (c .quiet + step) false))
 
 -- what a tick makes of a connection
-unfoldable pub tickedOf : ℕ → Connection → Connection
-tickedOf step c =
+unfoldable pub connectionTicked : ℕ → Connection → Connection
+connectionTicked step c =
     cond (eqb (c .beat) 0) c
     (cond (closesAt step c) closed
     (quietAfter step (counted c (c .silence + step) (c .quiet) (c .due))))
@@ -59,6 +59,6 @@ unfoldable pub beatingOf : Heartbeat → Connection → Connection
 beatingOf h c = sentOf (heardOf (setBeat h c))
 
 -- "a keep-alive, in its form and with its H"
-unfoldable pub heartbeatOf : Connection → Heartbeat
-heartbeatOf c =
+unfoldable pub heartbeatKept : Connection → Heartbeat
+heartbeatKept c =
     cond (eqb (c .form) secondsForm) (InSeconds (record { 0 = c .beat / 1000 })) (InMilliseconds (record { 0 = c .beat }))

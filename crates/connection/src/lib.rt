@@ -7,9 +7,9 @@ ghost use mathlib.Core.List.{map};
 ghost use Prim.Native.Nat.{_+_, _≤_};
 ghost use Rattle.laws.specs.Lists.{all, mask};
 ghost use Rattle.connection.specs.State.{liveAt, lowestFree, lowestDue};
-ghost use Rattle.connection.specs.Rules.{isClosed, isIdle, formObeys, isTimed, connectionObeys};
+ghost use Rattle.connection.specs.Obeys.{isClosed, isIdle, formObeys, isTimed, connectionObeys};
 ghost use Rattle.connection.specs.Kept.{SupervisionKept};
-ghost use Rattle.connection.specs.Supervision.{topCount, fitsStep, closesAt, quietAfter, tickedOf, heardOf, sentOf, setBeat, beatingOf, heartbeatOf};
+ghost use Rattle.connection.specs.Supervision.{topCount, fitsStep, closesAt, quietAfter, connectionTicked, heardOf, sentOf, setBeat, beatingOf, heartbeatKept};
 
 pub const CONNECTIONS: usize = 8;
 
@@ -135,7 +135,7 @@ impl Connection {
 
     pub fn ticked(mut self, step: u32) -> Connection
         requires { ⌜ fitsStep step self ≡ true ⌝ }
-        ensures { λ r. ⌜ r ≡ tickedOf step self ⌝ }
+        ensures { λ r. ⌜ r ≡ connectionTicked step self ⌝ }
     {
         if self.beat == 0 {
             return self;
@@ -187,7 +187,7 @@ impl Connection {
     // What a due keep-alive carries.
     pub fn heartbeat(self) -> Heartbeat
         requires { ⌜ connectionObeys self ≡ true ⌝ }
-        ensures { λ r. ⌜ r ≡ heartbeatOf self ⌝ }
+        ensures { λ r. ⌜ r ≡ heartbeatKept self ⌝ }
     {
         let beat = Milliseconds(self.beat as u32);
         if self.form == heartbeat::SECONDS_FORM {
@@ -287,7 +287,7 @@ pub fn closing(connections: [Connection; 8], step: u32) -> u8
 
 pub fn all_ticked(connections: [Connection; 8], step: u32) -> [Connection; 8]
     requires { ⌜ all (fitsStep step) connections ≡ true ⌝ }
-    ensures { λ r. ⌜ r ≡ map (tickedOf step) connections ⌝ }
+    ensures { λ r. ⌜ r ≡ map (connectionTicked step) connections ⌝ }
 {
     let mut out = connections;
     let mut i: usize = 0;

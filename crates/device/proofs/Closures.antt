@@ -12,21 +12,21 @@ use lib.Seq.{getD-set-same, getD-set-other, set-out}
 use Rattle.laws.specs.Lists.{all}
 use Rattle.laws.proofs.Tables.{clash, map-same, map-all, map-map}
 use Rattle.connection.specs.State.{closed, liveAt}
-use Rattle.connection.specs.Supervision.{fitsStep, closesAt, tickedOf}
+use Rattle.connection.specs.Supervision.{fitsStep, closesAt, connectionTicked}
 use Rattle.connection.specs.declared.Connection.{Connection}
 use Rattle.connection.proofs.Keeps.{supervision-kept}
 use Rattle.subscription.specs.State.{free, sweptOf}
-use Rattle.subscription.specs.Rules.{isFree, entryObeys}
+use Rattle.subscription.specs.Obeys.{isFree, entryObeys}
 use Rattle.subscription.specs.declared.Subscription.{Subscription}
 use Rattle.subscription.proofs.Keeps.{Sound, entry-view, free-unused}
 use Rattle.objects.specs.Methods.{lockMethod}
 use Rattle.holders.specs.Holders.{isOther, holderObeys, sweptHolder}
 use Rattle.holders.proofs.Keeps.{holders-kept}
 use Rattle.device.specs.State.{sweepOf, closeOf}
-use Rattle.device.specs.Rules.{deviceObeys}
+use Rattle.device.specs.Obeys.{deviceObeys}
 use Rattle.device.specs.Run.{runOf}
-use Rattle.device.specs.Time.{stepOf, advanced, tickBy, tickOf}
-use Rattle.device.specs.Closure.{isLockOf, isEntryOf, locksOf, entriesOf, noLocks, noEntries, Gone, Stays, freedOf, ClosureFrees}
+use Rattle.device.specs.Time.{stepOf, advanced, tickStep, tickOf}
+use Rattle.device.specs.Closure.{isLockOf, isEntryOf, locksOf, subscriptionsOf, noLocks, noEntries, Gone, Stays, freedOf, ClosureFrees}
 use Rattle.device.specs.declared.Device.{Device}
 use Rattle.device.proofs.Keeps.{obeys-are}
 use Rattle.device.proofs.Commands.{lock-free}
@@ -87,7 +87,7 @@ module _ (cs : List Connection) (n : ℕ) where
 -- ---- a sweep, whatever connections come
 module _ (d : Device) (reading : ℕ) (cs : List Connection) (n : ℕ) where
   sweep-gone : liveAt cs n ≡ false → Gone n d (sweepOf (advanced d reading cs))
-  unfolding sweepOf locksOf entriesOf noLocks noEntries
+  unfolding sweepOf locksOf subscriptionsOf noLocks noEntries
   sweep-gone l =
       record {
         shut = l;
@@ -96,7 +96,7 @@ module _ (d : Device) (reading : ℕ) (cs : List Connection) (n : ℕ) where
       }
 
   sweep-stays : liveAt cs n ≡ true → Stays n d (sweepOf (advanced d reading cs))
-  unfolding sweepOf locksOf entriesOf
+  unfolding sweepOf locksOf subscriptionsOf
   sweep-stays l =
       record {
         live = l;
@@ -174,23 +174,23 @@ wording d n h =
 -- ---- a tick
 module _ (d : Device) (reading n : ℕ) (b : leb (2 ^ 31) (stepOf reading (d .reading)) ≡ false) (f : all (fitsStep (stepOf reading (d .reading))) (d .connections) ≡ true) where
   -- connection n after the tick
-  live-ticked : liveAt (map (tickedOf (stepOf reading (d .reading))) (d .connections)) n ≡ (liveAt (d .connections) n && not (closesAt (stepOf reading (d .reading)) (getD (d .connections) n closed)))
-  unfolding liveAt tickedOf
+  live-ticked : liveAt (map (connectionTicked (stepOf reading (d .reading))) (d .connections)) n ≡ (liveAt (d .connections) n && not (closesAt (stepOf reading (d .reading)) (getD (d .connections) n closed)))
+  unfolding liveAt connectionTicked
   live-ticked =
-      ap (λ (c : Connection). c .live) (List·getD-map (tickedOf (stepOf reading (d .reading))) (d .connections) n closed)
+      ap (λ (c : Connection). c .live) (List·getD-map (connectionTicked (stepOf reading (d .reading))) (d .connections) n closed)
       ∙ supervision-kept .leaving (stepOf reading (d .reading)) (getD (d .connections) n closed)
 
   ticking : closesAt (stepOf reading (d .reading)) (getD (d .connections) n closed) ≡ true → Gone n d (tickOf d reading .device)
-  unfolding tickBy
+  unfolding tickStep
   ticking c =
       rw (b, f)
-      (sweep-gone d reading (map (tickedOf (stepOf reading (d .reading))) (d .connections)) n (live-ticked ∙ rw (c, and-false)))
+      (sweep-gone d reading (map (connectionTicked (stepOf reading (d .reading))) (d .connections)) n (live-ticked ∙ rw (c, and-false)))
 
   staying : liveAt (d .connections) n ≡ true → closesAt (stepOf reading (d .reading)) (getD (d .connections) n closed) ≡ false → Stays n d (tickOf d reading .device)
-  unfolding tickBy
+  unfolding tickStep
   staying l c =
       rw (b, f)
-      (sweep-stays d reading (map (tickedOf (stepOf reading (d .reading))) (d .connections)) n (live-ticked ∙ rw (l, c)))
+      (sweep-stays d reading (map (connectionTicked (stepOf reading (d .reading))) (d .connections)) n (live-ticked ∙ rw (l, c)))
 
 -- ---- a lock that is free again
 -- the holder at a place after a sweep
@@ -210,9 +210,9 @@ releasing d n k at h e =
     free-locks (closeOf d n) k at h (swept-at (set (d .connections) n closed) (d .holders) n at (live-closed (d .connections) n) e)
 
 expiring : (d : Device) (reading n k at : ℕ) → leb (2 ^ 31) (stepOf reading (d .reading)) ≡ false → all (fitsStep (stepOf reading (d .reading))) (d .connections) ≡ true → closesAt (stepOf reading (d .reading)) (getD (d .connections) n closed) ≡ true → at < 8 → getD (d .holders) at 0 ≡ n + 1 → runOf (tickOf d reading .device) k (4097 + at) lockMethod 0 [] .answer .status ≡ 0
-unfolding tickBy sweepOf
+unfolding tickStep sweepOf
 expiring d reading n k at b f c h e =
-    let cs = map (tickedOf (stepOf reading (d .reading))) (d .connections) in
+    let cs = map (connectionTicked (stepOf reading (d .reading))) (d .connections) in
     rw (b, f)
     (free-locks (sweepOf (advanced d reading cs)) k at h
     (swept-at cs (d .holders) n at (live-ticked d reading n b f ∙ rw (c, and-false)) e))

@@ -16,8 +16,8 @@ use Rattle.mechanism.specs.declared.Arming.{Arming}
 use Rattle.subscription.specs.State.{isMute, isTwin, isUnused, twinAt, lowestUnused, free, markedOf}
 use Rattle.subscription.specs.declared.Subscription.{Subscription}
 use Rattle.objects.specs.Methods.{classMethod, lockableMethod, lockMethod, unlockMethod, getMethod, setMethod, addMethod, removeMethod, resetKeyMethod, placeOf, isManager, isObject, isTelling, isLocking, isMuting, isSubscribing, hasMethod}
-use Rattle.objects.specs.Tests.{isForbidden, countOf, lengthOf, isLengthBad, isPairBad, isMalformed, entryOf, withContext, isStrange, isEmitterBad, isMuteValue, isValueBad}
-use Rattle.objects.specs.Answers.{classOf, identificationOf, replyOf, failedOf, toldOf}
+use Rattle.objects.specs.Tests.{isForbidden, countOf, lengthOf, isLengthBad, isPairBad, isMalformed, subscriptionFrom, withContext, isStrange, isEmitterBad, isMuteValue, isValueBad}
+use Rattle.objects.specs.Answers.{classOf, identificationOf, replyOf, failedOf, answerWith}
 use Rattle.objects.specs.declared.Answer.{Answer}
 use Rattle.holders.specs.Holders.{ownerOf, isOther}
 use Rattle.device.specs.State.{withSubscriptions, withHolders, withMechanism}
@@ -69,14 +69,14 @@ module _ (d : Device) (n at : ℕ) (h : at < 8) where
     lock-other t a e = ran-failed d n (4097 + at) lockMethod 0 [] 3 (lock-status ∙ rw (← q, t)) refl a e
 
     pub lock-free : b ≡ false → runOf d n (4097 + at) lockMethod 0 [] .answer .status ≡ 0
-    unfolding answerOf toldOf
+    unfolding answerOf answerWith
     lock-free t = ap (λ (r : Ran). r .answer .status) (sym (ran-done d n (4097 + at) lockMethod 0 [] (lock-status ∙ rw (← q, t))))
 
-    pub lock-done : b ≡ false → (o : ℕ) → o ≡ ownerOf n → (a : Answer) → a ≡ toldOf [] → _≡_ {A = Ran} (record { device = withHolders d (set (d .holders) at o); answer = a }) (runOf d n (4097 + at) lockMethod 0 [])
+    pub lock-done : b ≡ false → (o : ℕ) → o ≡ ownerOf n → (a : Answer) → a ≡ answerWith [] → _≡_ {A = Ran} (record { device = withHolders d (set (d .holders) at o); answer = a }) (runOf d n (4097 + at) lockMethod 0 [])
     unfolding doneOf answerOf replyOf
     lock-done t o p a e = rw (p, e) (does ∙ ran-done d n (4097 + at) lockMethod 0 [] (lock-status ∙ rw (← q, t)))
       where
-        does : _≡_ {A = Ran} (record { device = withHolders d (set (d .holders) at (ownerOf n)); answer = toldOf [] }) (record { device = doneOf d n (4097 + at) lockMethod []; answer = answerOf d (4097 + at) lockMethod })
+        does : _≡_ {A = Ran} (record { device = withHolders d (set (d .holders) at (ownerOf n)); answer = answerWith [] }) (record { device = doneOf d n (4097 + at) lockMethod []; answer = answerOf d (4097 + at) lockMethod })
         does = rw (place-of at)
 
     pub unlock-other : b ≡ true → (a : Answer) → a ≡ failedOf 3 → unchanged d a ≡ runOf d n (4097 + at) unlockMethod 0 []
@@ -86,12 +86,12 @@ module _ (d : Device) (n at : ℕ) (h : at < 8) where
     unlock-unheld t z a e =
         ran-failed d n (4097 + at) unlockMethod 0 [] 9 (unlock-status ∙ rw (← q, t, eq-eqb (getD (d .holders) at 0) 0 z)) refl a e
 
-    pub unlock-done : b ≡ false → (getD (d .holders) at 0 ≡ 0 → ⊥) → (a : Answer) → a ≡ toldOf [] → _≡_ {A = Ran} (record { device = withHolders d (set (d .holders) at 0); answer = a }) (runOf d n (4097 + at) unlockMethod 0 [])
+    pub unlock-done : b ≡ false → (getD (d .holders) at 0 ≡ 0 → ⊥) → (a : Answer) → a ≡ answerWith [] → _≡_ {A = Ran} (record { device = withHolders d (set (d .holders) at 0); answer = a }) (runOf d n (4097 + at) unlockMethod 0 [])
     unfolding doneOf answerOf replyOf
     unlock-done t z a e =
         rw e (does ∙ ran-done d n (4097 + at) unlockMethod 0 [] (unlock-status ∙ rw (← q, t, ne-eqb (getD (d .holders) at 0) 0 z)))
       where
-        does : _≡_ {A = Ran} (record { device = withHolders d (set (d .holders) at 0); answer = toldOf [] }) (record { device = doneOf d n (4097 + at) unlockMethod []; answer = answerOf d (4097 + at) unlockMethod })
+        does : _≡_ {A = Ran} (record { device = withHolders d (set (d .holders) at 0); answer = answerWith [] }) (record { device = doneOf d n (4097 + at) unlockMethod []; answer = answerOf d (4097 + at) unlockMethod })
         does = rw (place-of at)
 
     module _ (v : ℕ) where
@@ -102,26 +102,26 @@ module _ (d : Device) (n at : ℕ) (h : at < 8) where
         pub set-bad : not g ≡ true → (a : Answer) → a ≡ failedOf 7 → unchanged d a ≡ runOf d n (4097 + at) setMethod 1 (v ∷ [])
         set-bad f a e = ran-failed d n (4097 + at) setMethod 1 (v ∷ []) 7 (set-status v ∙ rw (← q, t, ← p, f)) refl a e
 
-        set-does : not g ≡ false → _≡_ {A = Ran} (record { device = mutedOf d (4097 + at) v; answer = toldOf [] }) (runOf d n (4097 + at) setMethod 1 (v ∷ []))
+        set-does : not g ≡ false → _≡_ {A = Ran} (record { device = mutedOf d (4097 + at) v; answer = answerWith [] }) (runOf d n (4097 + at) setMethod 1 (v ∷ []))
         unfolding doneOf answerOf replyOf
         set-does f = ran-done d n (4097 + at) setMethod 1 (v ∷ []) (set-status v ∙ rw (← q, t, ← p, f))
 
-        pub set-same : not g ≡ false → getD (d .mutes) at 0 ≡ v → (a : Answer) → a ≡ toldOf [] → unchanged d a ≡ runOf d n (4097 + at) setMethod 1 (v ∷ [])
+        pub set-same : not g ≡ false → getD (d .mutes) at 0 ≡ v → (a : Answer) → a ≡ answerWith [] → unchanged d a ≡ runOf d n (4097 + at) setMethod 1 (v ∷ [])
         unfolding mutedOf muteAt
         set-same f s a e = rw e (stays ∙ set-does f)
           where
-            stays : unchanged d (toldOf []) ≡ record { device = mutedOf d (4097 + at) v; answer = toldOf [] }
+            stays : unchanged d (answerWith []) ≡ record { device = mutedOf d (4097 + at) v; answer = answerWith [] }
             stays = rw (place-of at, eq-eqb (getD (d .mutes) at 0) v s)
 
-        pub set-changed : not g ≡ false → (getD (d .mutes) at 0 ≡ v → ⊥) → (ss : List Subscription) → ss ≡ map (markedOf (4097 + at)) (d .subscriptions) → (a : Answer) → a ≡ toldOf [] → _≡_ {A = Ran} (record { device = record { reading = d .reading; connections = d .connections; subscriptions = ss; mutes = set (d .mutes) at v; holders = d .holders; mechanism = d .mechanism }; answer = a }) (runOf d n (4097 + at) setMethod 1 (v ∷ []))
+        pub set-changed : not g ≡ false → (getD (d .mutes) at 0 ≡ v → ⊥) → (ss : List Subscription) → ss ≡ map (markedOf (4097 + at)) (d .subscriptions) → (a : Answer) → a ≡ answerWith [] → _≡_ {A = Ran} (record { device = record { reading = d .reading; connections = d .connections; subscriptions = ss; mutes = set (d .mutes) at v; holders = d .holders; mechanism = d .mechanism }; answer = a }) (runOf d n (4097 + at) setMethod 1 (v ∷ []))
         unfolding mutedOf muteAt
         set-changed f s ss m a e = rw (e, m) (changes ∙ set-does f)
           where
-            changes : _≡_ {A = Ran} (record { device = record { reading = d .reading; connections = d .connections; subscriptions = map (markedOf (4097 + at)) (d .subscriptions); mutes = set (d .mutes) at v; holders = d .holders; mechanism = d .mechanism }; answer = toldOf [] }) (record { device = mutedOf d (4097 + at) v; answer = toldOf [] })
+            changes : _≡_ {A = Ran} (record { device = record { reading = d .reading; connections = d .connections; subscriptions = map (markedOf (4097 + at)) (d .subscriptions); mutes = set (d .mutes) at v; holders = d .holders; mechanism = d .mechanism }; answer = answerWith [] }) (record { device = mutedOf d (4097 + at) v; answer = answerWith [] })
             changes = rw (place-of at, ne-eqb (getD (d .mutes) at 0) v s)
 
 -- ---- what is told
-pub told-class : (t m : ℕ) → m ≡ classMethod → (a : Answer) → a ≡ toldOf (identificationOf (classOf t)) → (d : Device) → a ≡ answerOf d t m
+pub told-class : (t m : ℕ) → m ≡ classMethod → (a : Answer) → a ≡ answerWith (identificationOf (classOf t)) → (d : Device) → a ≡ answerOf d t m
 unfolding answerOf replyOf
 told-class t m e a q d = rw (e, q)
 
@@ -131,21 +131,21 @@ module _ (t m : ℕ) (k : isTelling m ≡ true) (n : m ≡ classMethod → ⊥) 
   unfolding isTelling
   told-else = eqb-true m lockableMethod (rw (ne-eqb m classMethod n) at k)
 
-  pub told-lockable : b ≡ true → (a : Answer) → a ≡ toldOf (1 ∷ []) → (d : Device) → a ≡ answerOf d t m
+  pub told-lockable : b ≡ true → (a : Answer) → a ≡ answerWith (1 ∷ []) → (d : Device) → a ≡ answerOf d t m
   unfolding answerOf replyOf
   told-lockable s a e d = rw (told-else, e, ← q, s)
 
-  pub told-not-lockable : b ≡ false → (a : Answer) → a ≡ toldOf (0 ∷ []) → (d : Device) → a ≡ answerOf d t m
+  pub told-not-lockable : b ≡ false → (a : Answer) → a ≡ answerWith (0 ∷ []) → (d : Device) → a ≡ answerOf d t m
   unfolding answerOf replyOf
   told-not-lockable s a e d = rw (told-else, e, ← q, s)
 
-pub told-value : (d : Device) (at : ℕ) (a : Answer) → a ≡ toldOf (getD (d .mutes) at 0 ∷ []) → unchanged d a ≡ unchanged d (answerOf d (4097 + at) getMethod)
+pub told-value : (d : Device) (at : ℕ) (a : Answer) → a ≡ answerWith (getD (d .mutes) at 0 ∷ []) → unchanged d a ≡ unchanged d (answerOf d (4097 + at) getMethod)
 unfolding answerOf replyOf muteAt
 told-value d at a e = rw (e, place-of at)
 
 -- ---- subscriptions
 -- the context makes no difference to a twin
-twin-same : (n : ℕ) (part : List ℕ) (x : ℕ) (ss : List Subscription) → twinAt (withContext (entryOf n part) x) ss ≡ twinAt (entryOf n part) ss
+twin-same : (n : ℕ) (part : List ℕ) (x : ℕ) (ss : List Subscription) → twinAt (withContext (subscriptionFrom n part) x) ss ≡ twinAt (subscriptionFrom n part) ss
 unfolding isTwin
 twin-same n part x ss = refl
 
@@ -159,17 +159,17 @@ module _ (d : Device) (n : ℕ) (part : List ℕ) where
   remove-status f = simp (f, or-false)
 
   -- a search's answer is whether the subscription is held
-  module _ (x : ℕ) (s : Subscription) (es : s ≡ withContext (entryOf n part) x) (i : ℕ) (ei : i ≡ twinAt s (d .subscriptions)) (l : length (d .subscriptions) ≡ 32) where
-    place-is : i ≡ twinAt (entryOf n part) (d .subscriptions)
+  module _ (x : ℕ) (s : Subscription) (es : s ≡ withContext (subscriptionFrom n part) x) (i : ℕ) (ei : i ≡ twinAt s (d .subscriptions)) (l : length (d .subscriptions) ≡ 32) where
+    place-is : i ≡ twinAt (subscriptionFrom n part) (d .subscriptions)
     place-is = ei ∙ ap (λ (y : Subscription). twinAt y (d .subscriptions)) es ∙ twin-same n part x (d .subscriptions)
 
     pub held-is : i < 32 → isSubscribed d n part ≡ true
     unfolding isSubscribed
-    held-is h = rw (any-index (isTwin (entryOf n part)) (d .subscriptions), ← place-is, l) (lt-ltb i 32 h)
+    held-is h = rw (any-index (isTwin (subscriptionFrom n part)) (d .subscriptions), ← place-is, l) (lt-ltb i 32 h)
 
     pub held-not : 32 ≤ i → isSubscribed d n part ≡ false
     unfolding isSubscribed
-    held-not h = rw (any-index (isTwin (entryOf n part)) (d .subscriptions), ← place-is, l) (le-ltb i 32 h)
+    held-not h = rw (any-index (isTwin (subscriptionFrom n part)) (d .subscriptions), ← place-is, l) (le-ltb i 32 h)
 
   module _ (f : isMalformed addMethod 5 part ≡ false) (b : Bool) (q : b ≡ isStrange part) where
     pub add-strange : b ≡ true → (a : Answer) → a ≡ failedOf 6 → unchanged d a ≡ runOf d n 4 addMethod 5 part
@@ -183,7 +183,7 @@ module _ (d : Device) (n : ℕ) (part : List ℕ) where
         add-late : (g : Bool) → isSubscribed d n part ≡ g → statusOf d n 4 addMethod 5 part ≡ cond g 9 (cond (not (any isUnused (d .subscriptions))) 10 0)
         add-late g e = add-status f ∙ rw (← q, t, eq-eqb (getD part 20 0) 1 m, e)
 
-        module _ (x : ℕ) (s : Subscription) (es : s ≡ withContext (entryOf n part) x) (i : ℕ) (ei : i ≡ twinAt s (d .subscriptions)) (l : length (d .subscriptions) ≡ 32) where
+        module _ (x : ℕ) (s : Subscription) (es : s ≡ withContext (subscriptionFrom n part) x) (i : ℕ) (ei : i ≡ twinAt s (d .subscriptions)) (l : length (d .subscriptions) ≡ 32) where
           pub add-twin : i < 32 → (a : Answer) → a ≡ failedOf 9 → unchanged d a ≡ runOf d n 4 addMethod 5 part
           add-twin h a e = ran-failed d n 4 addMethod 5 part 9 (add-late true (held-is x s es i ei l h)) refl a e
 
@@ -196,19 +196,19 @@ module _ (d : Device) (n : ℕ) (part : List ℕ) where
             pub add-full : 32 ≤ r → (a : Answer) → a ≡ failedOf 10 → unchanged d a ≡ runOf d n 4 addMethod 5 part
             add-full k a e = ran-failed d n 4 addMethod 5 part 10 (room-is false (le-ltb r 32 k)) refl a e
 
-            pub add-done : r < 32 → x ≡ be32At part 16 → (a : Answer) → a ≡ toldOf [] → _≡_ {A = Ran} (record { device = withSubscriptions d (set (d .subscriptions) r s); answer = a }) (runOf d n 4 addMethod 5 part)
-            unfolding doneOf answerOf replyOf entryOf
+            pub add-done : r < 32 → x ≡ be32At part 16 → (a : Answer) → a ≡ answerWith [] → _≡_ {A = Ran} (record { device = withSubscriptions d (set (d .subscriptions) r s); answer = a }) (runOf d n 4 addMethod 5 part)
+            unfolding doneOf answerOf replyOf subscriptionFrom
             add-done k ex a e = rw (e, es, ex, er) (ran-done d n 4 addMethod 5 part (room-is true (lt-ltb r 32 k)))
 
   module _ (f : isMalformed removeMethod 2 part ≡ false) (b : Bool) (q : b ≡ isStrange part) where
     pub remove-strange : b ≡ true → (a : Answer) → a ≡ failedOf 6 → unchanged d a ≡ runOf d n 4 removeMethod 2 part
     remove-strange t a e = ran-failed d n 4 removeMethod 2 part 6 (remove-status f ∙ rw (← q, t)) refl a e
 
-    module _ (t : b ≡ false) (x : ℕ) (s : Subscription) (es : s ≡ withContext (entryOf n part) x) (i : ℕ) (ei : i ≡ twinAt s (d .subscriptions)) (l : length (d .subscriptions) ≡ 32) where
+    module _ (t : b ≡ false) (x : ℕ) (s : Subscription) (es : s ≡ withContext (subscriptionFrom n part) x) (i : ℕ) (ei : i ≡ twinAt s (d .subscriptions)) (l : length (d .subscriptions) ≡ 32) where
       pub remove-none : 32 ≤ i → (a : Answer) → a ≡ failedOf 9 → unchanged d a ≡ runOf d n 4 removeMethod 2 part
       remove-none h a e = ran-failed d n 4 removeMethod 2 part 9 (remove-status f ∙ rw (← q, t, held-not x s es i ei l h)) refl a e
 
-      pub remove-done : i < 32 → (a : Answer) → a ≡ toldOf [] → _≡_ {A = Ran} (record { device = withSubscriptions d (set (d .subscriptions) i free); answer = a }) (runOf d n 4 removeMethod 2 part)
+      pub remove-done : i < 32 → (a : Answer) → a ≡ answerWith [] → _≡_ {A = Ran} (record { device = withSubscriptions d (set (d .subscriptions) i free); answer = a }) (runOf d n 4 removeMethod 2 part)
       unfolding doneOf answerOf replyOf
       remove-done h a e =
           rw (e, place-is x s es i ei l) (ran-done d n 4 removeMethod 2 part (remove-status f ∙ rw (← q, t, held-is x s es i ei l h)))
@@ -233,7 +233,7 @@ module _ (d : Device) (part : List ℕ) (f : isMalformed resetKeyMethod 2 part �
       go true u = ran-failed d n 1 resetKeyMethod 2 part 7 (arm-status d n 2 part ∙ rw (f, u)) refl a e
       go false u = clash _ (o .taken) (untaken-told false u) (not-true (o .taken) t)
 
-  pub arm-done : not (o .taken) ≡ false → (a : Answer) → a ≡ toldOf [] → _≡_ {A = Ran} (record { device = withMechanism d (o .mechanism); answer = a }) (runOf d n 1 resetKeyMethod 2 part)
+  pub arm-done : not (o .taken) ≡ false → (a : Answer) → a ≡ answerWith [] → _≡_ {A = Ran} (record { device = withMechanism d (o .mechanism); answer = a }) (runOf d n 1 resetKeyMethod 2 part)
   unfolding doneOf answerOf replyOf armingOf
   arm-done t a e = go (isUntaken part) refl
     where

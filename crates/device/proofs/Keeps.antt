@@ -13,30 +13,30 @@ use Rattle.laws.proofs.Conds.{and-left, and-right, cond-right}
 use Rattle.laws.proofs.Tables.{or-neither, all-set, all-map, all-weaken, all-true, all-getD, pairs-like, pairs-map, pairs-set, none-all}
 use Rattle.heartbeat.specs.declared.Heartbeat.{Heartbeat}
 use Rattle.heartbeat.specs.Beat.{beatOf, formOf}
-use Rattle.connection.specs.State.{closed, opened, liveAt, isFree, lowestFree}
-use Rattle.connection.specs.Rules.{connectionObeys}
-use Rattle.connection.specs.Supervision.{fitsStep, closesAt, tickedOf, heardOf, sentOf, setBeat, supervised, beatingOf}
+use Rattle.connection.specs.State.{closed, opened, liveAt, isNotOpen, lowestFree}
+use Rattle.connection.specs.Obeys.{connectionObeys}
+use Rattle.connection.specs.Supervision.{fitsStep, closesAt, connectionTicked, heardOf, sentOf, setBeat, supervised, beatingOf}
 use Rattle.connection.specs.Kept.{fitsForm}
 use Rattle.connection.specs.declared.Connection.{Connection}
 use Rattle.connection.proofs.Times.{live-below}
 use Rattle.connection.proofs.Keeps.{supervision-kept}
 use Rattle.octets.specs.Numbers.{be32At}
 use Rattle.mechanism.specs.Arguments.{isUntaken, armedBy}
-use Rattle.mechanism.specs.Rules.{mechanismObeys}
+use Rattle.mechanism.specs.Obeys.{mechanismObeys}
 use Rattle.mechanism.specs.declared.Mechanism.{Mechanism}
 use Rattle.mechanism.proofs.Kept.{mechanism-kept}
 use Rattle.subscription.specs.State.{changeEvent, free, isMute, isTwin, twinAt, lowestUnused, markedOf, toldOf, sweptOf}
-use Rattle.subscription.specs.Rules.{entryObeys, apart}
+use Rattle.subscription.specs.Obeys.{entryObeys, apart}
 use Rattle.subscription.specs.declared.Subscription.{Subscription}
 use Rattle.subscription.proofs.Keeps.{entries-kept, obeys-sound}
 use Rattle.objects.specs.Methods.{lockMethod, unlockMethod, setMethod, addMethod, removeMethod, resetKeyMethod, placeOf, isObject, isSubscribing, hasMethod}
-use Rattle.objects.specs.Tests.{isForbidden, isMalformed, entryOf, isStrange, isEmitterBad, isMuteValue, isValueBad}
+use Rattle.objects.specs.Tests.{isForbidden, isMalformed, subscriptionFrom, isStrange, isEmitterBad, isMuteValue, isValueBad}
 use Rattle.objects.specs.Answers.{failedOf}
 use Rattle.holders.specs.Holders.{ownerOf, holderObeys, sweptHolder}
 use Rattle.holders.proofs.Keeps.{holders-kept}
 use Rattle.device.specs.State.{freshOf, withConnections, withSubscriptions, withHolders, withMechanism, openOf, sweepOf, closeOf, atConnection, heardAt, sentAt, toldAt, beatingAt}
-use Rattle.device.specs.Rules.{deviceObeys}
-use Rattle.device.specs.Time.{stepOf, advanced, tickBy, tickOf}
+use Rattle.device.specs.Obeys.{deviceObeys}
+use Rattle.device.specs.Time.{stepOf, advanced, tickStep, tickOf}
 use Rattle.device.specs.Run.{holderAt, muteAt, isHeldByOther, isSubscribed, isOutOfTurn, statusOf, mutedOf, doneOf, answerOf, unchanged, ranBy, runOf}
 use Rattle.device.specs.Kept.{RulesKept, FailuresChangeNothing}
 use Rattle.device.specs.declared.Device.{Device}
@@ -155,7 +155,7 @@ beating d n h f o = go (liveAt (d .connections) n) refl
 
 opening : (d : Device) → deviceObeys d ≡ true → deviceObeys (openOf d .device) ≡ true
 unfolding openOf
-opening d h = go (any isFree (d .connections))
+opening d h = go (any isNotOpen (d .connections))
   where
     done : Opened
     done =
@@ -193,7 +193,7 @@ unfolding closeOf
 closing d n h = sweep-keeps d (d .reading) (set (d .connections) n closed) h (all-set connectionObeys (d .connections) n closed (obeys-are d h .connections) (supervision-kept .shut))
 
 ticking : (d : Device) (reading : ℕ) → deviceObeys d ≡ true → deviceObeys (tickOf d reading .device) ≡ true
-unfolding tickBy
+unfolding tickStep
 ticking d reading h = back (leb (2 ^ 31) s)
   where
     s : ℕ
@@ -202,12 +202,12 @@ ticking d reading h = back (leb (2 ^ 31) s)
     done : Ticked
     done =
         record {
-          device = sweepOf (advanced d reading (map (tickedOf s) (d .connections)));
+          device = sweepOf (advanced d reading (map (connectionTicked s) (d .connections)));
           answer = Closed (mask (closesAt s) (d .connections));
         }
 
     keeps : deviceObeys (done .device) ≡ true
-    keeps = sweep-keeps d reading _ h (all-map connectionObeys connectionObeys (tickedOf s) (supervision-kept .ticking s) (d .connections) (obeys-are d h .connections))
+    keeps = sweep-keeps d reading _ h (all-map connectionObeys connectionObeys (connectionTicked s) (supervision-kept .ticking s) (d .connections) (obeys-are d h .connections))
 
     refused : Ticking → Ticked
     refused a = record { device = d; answer = a }
@@ -349,19 +349,19 @@ arming-right m part v e =
     rw e at k
 
 -- the entry of an add that passed
-entry-right : (d : Device) (n target m : ℕ) (part : List ℕ) → liveAt (d .connections) n ≡ true → Passed d n target m part → eqb m addMethod ≡ true → entryObeys (d .connections) (entryOf n part) ≡ true
-unfolding isEmitterBad isSubscribing isStrange entryOf
+entry-right : (d : Device) (n target m : ℕ) (part : List ℕ) → liveAt (d .connections) n ≡ true → Passed d n target m part → eqb m addMethod ≡ true → entryObeys (d .connections) (subscriptionFrom n part) ≡ true
+unfolding isEmitterBad isSubscribing isStrange subscriptionFrom
 entry-right d n target m part l p e =
     let k : isMute (be32At part 0) && eqb (be32At part 4) changeEvent ≡ true = not-false _ (rw e at (p .emitter)) in
-    obeys-sound (d .connections) (entryOf n part)
+    obeys-sound (d .connections) (subscriptionFrom n part)
     (record { used = refl; live = l; mute = and-left _ _ k; event = and-right (isMute (be32At part 0)) _ k })
 
-entry-apart : (d : Device) (n target m : ℕ) (part : List ℕ) → Passed d n target m part → eqb m addMethod ≡ true → all (apart (entryOf n part)) (d .subscriptions) ≡ true
+entry-apart : (d : Device) (n target m : ℕ) (part : List ℕ) → Passed d n target m part → eqb m addMethod ≡ true → all (apart (subscriptionFrom n part)) (d .subscriptions) ≡ true
 unfolding isOutOfTurn isSubscribed apart
 entry-apart d n target m part p e =
     let k = or-neither ((eqb m unlockMethod && eqb (holderAt d target) 0) || (eqb m addMethod && isSubscribed d n part)) _ (p .turn) .0 in
     let j = or-neither (eqb m unlockMethod && eqb (holderAt d target) 0) _ k .1 in
-    none-all (isTwin (entryOf n part)) (apart (entryOf n part)) (λ (x : Subscription) (t : isTwin (entryOf n part) x ≡ false). ap not t) (d .subscriptions) (rw e at j)
+    none-all (isTwin (subscriptionFrom n part)) (apart (subscriptionFrom n part)) (λ (x : Subscription) (t : isTwin (subscriptionFrom n part) x ≡ false). ap not t) (d .subscriptions) (rw e at j)
 
 done-keeps : (d : Device) (n target m : ℕ) (part : List ℕ) → liveAt (d .connections) n ≡ true → Passed d n target m part → deviceObeys d ≡ true → deviceObeys (doneOf d n target m part) ≡ true
 unfolding doneOf
@@ -371,10 +371,10 @@ done-keeps d n target m part l p h = lock (eqb m lockMethod)
     armed = withMechanism d (armedBy part)
 
     removed : Device
-    removed = withSubscriptions d (set (d .subscriptions) (twinAt (entryOf n part) (d .subscriptions)) free)
+    removed = withSubscriptions d (set (d .subscriptions) (twinAt (subscriptionFrom n part) (d .subscriptions)) free)
 
     added : Device
-    added = withSubscriptions d (set (d .subscriptions) (lowestUnused (d .subscriptions)) (entryOf n part))
+    added = withSubscriptions d (set (d .subscriptions) (lowestUnused (d .subscriptions)) (subscriptionFrom n part))
 
     muted : Device
     muted = mutedOf d target (getD part 0 0)
@@ -394,7 +394,7 @@ done-keeps d n target m part l p h = lock (eqb m lockMethod)
     remove false = arm (eqb m resetKeyMethod) refl
 
     add : (t : Bool) → eqb m addMethod ≡ t → deviceObeys (cond t added (cond (eqb m removeMethod) removed (cond (eqb m resetKeyMethod) armed d))) ≡ true
-    add true e = with-entry d _ (entryOf n part) (entry-right d n target m part l p e) (entry-apart d n target m part p e) h
+    add true e = with-entry d _ (subscriptionFrom n part) (entry-right d n target m part l p e) (entry-apart d n target m part p e) h
     add false e = remove (eqb m removeMethod)
 
     mute : (t : Bool) → eqb m setMethod ≡ t → deviceObeys (cond t muted (cond (eqb m addMethod) added (cond (eqb m removeMethod) removed (cond (eqb m resetKeyMethod) armed d)))) ≡ true

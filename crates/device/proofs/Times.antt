@@ -10,15 +10,15 @@ use lib.Seq.{set-out}
 use Rattle.laws.specs.Lists.{all, mask}
 use Rattle.laws.proofs.Tables.{any-index, getD-any}
 use Rattle.heartbeat.specs.declared.Heartbeat.{Heartbeat}
-use Rattle.connection.specs.State.{closed, opened, liveAt, isFree, lowestFree}
-use Rattle.connection.specs.Supervision.{fitsStep, closesAt, tickedOf, heardOf, sentOf, beatingOf}
+use Rattle.connection.specs.State.{closed, opened, liveAt, isNotOpen, lowestFree}
+use Rattle.connection.specs.Supervision.{fitsStep, closesAt, connectionTicked, heardOf, sentOf, beatingOf}
 use Rattle.connection.specs.declared.Connection.{Connection}
 use Rattle.connection.proofs.Times.{live-below}
 use Rattle.subscription.specs.State.{free, toldOf, sweptOf}
 use Rattle.subscription.specs.declared.Subscription.{Subscription}
 use Rattle.holders.specs.Holders.{sweptHolder}
 use Rattle.device.specs.State.{withConnections, withSubscriptions, openOf, sweepOf, closeOf, atConnection, heardAt, sentAt, toldAt, beatingAt}
-use Rattle.device.specs.Time.{stepOf, advanced, tickBy, tickOf}
+use Rattle.device.specs.Time.{stepOf, advanced, tickStep, tickOf}
 use Rattle.device.specs.declared.Device.{Device}
 use Rattle.device.specs.declared.Opened.{Opened}
 use Rattle.device.specs.declared.Opening.the-variants.{Number, Full}
@@ -91,11 +91,11 @@ module _ (d : Device) (at : ℕ) (l : length (d .subscriptions) ≡ 32) where
 module _ (d : Device) (n : ℕ) (q : n ≡ lowestFree (d .connections)) (e : length (d .connections) ≡ 8) where
   pub open-full : 8 ≤ n → _≡_ {A = Opened} (record { device = d; answer = Full }) (openOf d)
   unfolding openOf
-  open-full h = rw (any-index isFree (d .connections), ← q, e, le-ltb n 8 h)
+  open-full h = rw (any-index isNotOpen (d .connections), ← q, e, le-ltb n 8 h)
 
   pub open-done : n < 8 → _≡_ {A = Opened} (record { device = withConnections d (set (d .connections) n opened); answer = Number n }) (openOf d)
   unfolding openOf
-  open-done h = rw (any-index isFree (d .connections), ← q, e, lt-ltb n 8 h)
+  open-done h = rw (any-index isNotOpen (d .connections), ← q, e, lt-ltb n 8 h)
 
 -- ---- sweeping
 pub swept-all : (d : Device) (ss : List Subscription) (hs : List ℕ) → ss ≡ map (sweptOf (d .connections)) (d .subscriptions) → hs ≡ map (sweptHolder (d .connections)) (d .holders) → _≡_ {A = Device} (record { reading = d .reading; connections = d .connections; subscriptions = ss; mutes = d .mutes; holders = hs; mechanism = d .mechanism }) (sweepOf d)
@@ -108,13 +108,13 @@ fit-known step cs b q t = sym q ∙ not-false b t
 
 module _ (d : Device) (reading s : ℕ) (e : s ≡ stepOf reading (d .reading)) where
   pub tick-back : 2147483648 ≤ s → _≡_ {A = Ticked} (record { device = d; answer = ClockBack }) (tickOf d reading)
-  unfolding tickBy
+  unfolding tickStep
   tick-back h = rw (← e, le-leb _ _ h)
 
   pub tick-over : (b : Bool) → s < 2147483648 → b ≡ all (fitsStep s) (d .connections) → not b ≡ true → _≡_ {A = Ticked} (record { device = d; answer = Overrun }) (tickOf d reading)
-  unfolding tickBy
+  unfolding tickStep
   tick-over b h q t = rw (← e, lt-leb _ _ h, ← q, not-true b t)
 
-  pub tick-done : (b : Bool) (m : ℕ) (cs : List Connection) (r : Device) → s < 2147483648 → b ≡ all (fitsStep s) (d .connections) → not b ≡ false → m ≡ mask (closesAt s) (d .connections) → cs ≡ map (tickedOf s) (d .connections) → r ≡ sweepOf (advanced d reading cs) → _≡_ {A = Ticked} (record { device = r; answer = Closed m }) (tickOf d reading)
-  unfolding tickBy
+  pub tick-done : (b : Bool) (m : ℕ) (cs : List Connection) (r : Device) → s < 2147483648 → b ≡ all (fitsStep s) (d .connections) → not b ≡ false → m ≡ mask (closesAt s) (d .connections) → cs ≡ map (connectionTicked s) (d .connections) → r ≡ sweepOf (advanced d reading cs) → _≡_ {A = Ticked} (record { device = r; answer = Closed m }) (tickOf d reading)
+  unfolding tickStep
   tick-done b m cs r h q t em ec er = rw (← e, lt-leb _ _ h, ← q, not-false b t, em, er, ec)

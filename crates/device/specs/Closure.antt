@@ -12,7 +12,7 @@ use Rattle.subscription.specs.State.{firstMute, free}
 use Rattle.subscription.specs.declared.Subscription.{Subscription}
 use Rattle.objects.specs.Methods.{lockMethod}
 use Rattle.device.specs.State.{muteCount, closeOf}
-use Rattle.device.specs.Rules.{deviceObeys}
+use Rattle.device.specs.Obeys.{deviceObeys}
 use Rattle.device.specs.Run.{runOf}
 use Rattle.device.specs.Time.{stepOf, tickOf}
 use Rattle.device.specs.declared.Device.{Device}
@@ -28,8 +28,8 @@ isEntryOf n s = s .used && eqb (s .connection) n
 unfoldable pub locksOf : ℕ → Device → List ℕ
 locksOf n d = map (λ (h : ℕ). cond (isLockOf n h) h 0) (d .holders)
 
-unfoldable pub entriesOf : ℕ → Device → List Subscription
-entriesOf n d = map (λ (s : Subscription). cond (isEntryOf n s) s free) (d .subscriptions)
+unfoldable pub subscriptionsOf : ℕ → Device → List Subscription
+subscriptionsOf n d = map (λ (s : Subscription). cond (isEntryOf n s) s free) (d .subscriptions)
 
 -- none of them
 unfoldable pub noLocks : Device → List ℕ
@@ -42,13 +42,13 @@ noEntries d = map (λ (s : Subscription). free) (d .subscriptions)
 pub record Gone (n : ℕ) (d r : Device) : Type 0 where
   pub shut : liveAt (r .connections) n ≡ false
   pub locks : locksOf n r ≡ noLocks d
-  pub entries : entriesOf n r ≡ noEntries d
+  pub entries : subscriptionsOf n r ≡ noEntries d
 
 -- connection n is open in r, with its locks, entries and marks as in d
 pub record Stays (n : ℕ) (d r : Device) : Type 0 where
   pub live : liveAt (r .connections) n ≡ true
   pub locks : locksOf n r ≡ locksOf n d
-  pub entries : entriesOf n r ≡ entriesOf n d
+  pub entries : subscriptionsOf n r ≡ subscriptionsOf n d
 
 -- the closure in the paper's words: connection n's locks and entries freed, its counts cleared, the rest as it was
 unfoldable pub freedOf : Device → ℕ → Device

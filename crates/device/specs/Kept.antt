@@ -11,7 +11,7 @@ use Rattle.connection.specs.Supervision.{fitsStep}
 use Rattle.connection.specs.Kept.{fitsForm}
 use Rattle.objects.specs.Answers.{failedOf}
 use Rattle.device.specs.State.{freshOf, openOf, closeOf, heardAt, sentAt, toldAt, beatingAt}
-use Rattle.device.specs.Rules.{deviceObeys}
+use Rattle.device.specs.Obeys.{deviceObeys}
 use Rattle.device.specs.Time.{stepOf, tickOf}
 use Rattle.device.specs.Run.{statusOf, unchanged, runOf}
 use Rattle.device.specs.declared.Device.{Device}

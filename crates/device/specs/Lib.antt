@@ -1,5 +1,5 @@
 pub mod State
-pub mod Rules
+pub mod Obeys
 pub mod Time
 pub mod Run
 pub mod Kept

@@ -9,8 +9,8 @@ use Rattle.mechanism.specs.Arguments.{armedBy}
 use Rattle.subscription.specs.State.{free, isUnused, isTwin, twinAt, lowestUnused, markedOf}
 use Rattle.objects.specs.Methods.{lockMethod, unlockMethod, setMethod, addMethod, removeMethod, resetKeyMethod}
 use Rattle.objects.specs.Methods.{placeOf, isObject, isLocking, hasMethod}
-use Rattle.objects.specs.Tests.{isForbidden, isMalformed, entryOf, isEmitterBad, isValueBad}
-use Rattle.objects.specs.Answers.{replyOf, failedOf, toldOf}
+use Rattle.objects.specs.Tests.{isForbidden, isMalformed, subscriptionFrom, isEmitterBad, isValueBad}
+use Rattle.objects.specs.Answers.{replyOf, failedOf, answerWith}
 use Rattle.objects.specs.declared.Answer.{Answer}
 use Rattle.holders.specs.Holders.{ownerOf, isOther}
 use Rattle.device.specs.State.{withSubscriptions, withHolders, withMechanism}
@@ -30,7 +30,7 @@ isHeldByOther d n target m = (isLocking m || eqb m setMethod) && isOther (holder
 
 -- the subscription of these arguments is held
 unfoldable pub isSubscribed : Device → ℕ → List ℕ → Bool
-isSubscribed d n part = any (isTwin (entryOf n part)) (d .subscriptions)
+isSubscribed d n part = any (isTwin (subscriptionFrom n part)) (d .subscriptions)
 
 -- "9 unlock of an unheld mute, add of a subscription held, remove of one not held"
 unfoldable pub isOutOfTurn : Device → ℕ → ℕ → ℕ → List ℕ → Bool
@@ -74,14 +74,14 @@ doneOf d n target m part =
     cond (eqb m lockMethod) (withHolders d (set (d .holders) (placeOf target) (ownerOf n)))
     (cond (eqb m unlockMethod) (withHolders d (set (d .holders) (placeOf target) 0))
     (cond (eqb m setMethod) (mutedOf d target (getD part 0 0))
-    (cond (eqb m addMethod) (withSubscriptions d (set (d .subscriptions) (lowestUnused (d .subscriptions)) (entryOf n part)))
-    (cond (eqb m removeMethod) (withSubscriptions d (set (d .subscriptions) (twinAt (entryOf n part) (d .subscriptions)) free))
+    (cond (eqb m addMethod) (withSubscriptions d (set (d .subscriptions) (lowestUnused (d .subscriptions)) (subscriptionFrom n part)))
+    (cond (eqb m removeMethod) (withSubscriptions d (set (d .subscriptions) (twinAt (subscriptionFrom n part) (d .subscriptions)) free))
     (cond (eqb m resetKeyMethod) (withMechanism d (armedBy part))
     d)))))
 
 -- the reply to a command with status 0
 unfoldable pub answerOf : Device → ℕ → ℕ → Answer
-answerOf d target m = toldOf (replyOf target m (muteAt d target))
+answerOf d target m = answerWith (replyOf target m (muteAt d target))
 
 abbrev pub unchanged : Device → Answer → Ran
 unchanged d answer = record { device = d; answer = answer }

@@ -5,7 +5,7 @@ use mathlib.Core.List.{List, map}
 use lib.ListN.{getD, set, replicate}
 use Rattle.laws.specs.Lists.{any}
 use Rattle.heartbeat.specs.declared.Heartbeat.{Heartbeat}
-use Rattle.connection.specs.State.{connectionCount, closed, opened, liveAt, isFree, lowestFree}
+use Rattle.connection.specs.State.{connectionCount, closed, opened, liveAt, isNotOpen, lowestFree}
 use Rattle.connection.specs.Supervision.{heardOf, sentOf, beatingOf}
 use Rattle.connection.specs.declared.Connection.{Connection}
 use Rattle.mechanism.specs.State.{disarmed}
@@ -82,7 +82,7 @@ withMechanism d m =
 -- "Opening gives the lowest free number with all counts zero"; "TableFull: opening with 8 open"
 unfoldable pub openOf : Device → Opened
 openOf d =
-    cond (any isFree (d .connections))
+    cond (any isNotOpen (d .connections))
     (record {
       device = withConnections d (set (d .connections) (lowestFree (d .connections)) opened);
       answer = Number (lowestFree (d .connections));

@@ -4,7 +4,7 @@ use mathlib.Core.Bool.{cond}
 use mathlib.Core.List.{List, map}
 use lib.Dec.{leb}
 use Rattle.laws.specs.Lists.{all, mask}
-use Rattle.connection.specs.Supervision.{fitsStep, closesAt, tickedOf}
+use Rattle.connection.specs.Supervision.{fitsStep, closesAt, connectionTicked}
 use Rattle.connection.specs.declared.Connection.{Connection}
 use Rattle.device.specs.State.{sweepOf}
 use Rattle.device.specs.declared.Device.{Device}
@@ -29,16 +29,16 @@ advanced d reading cs =
 
 -- "6 ClockBack: step of 2^31 or more", "7 Overrun: silence or quiet plus step does not fit 64 bits";
 -- "The tick's answer is a byte, bit n set for connection n closed"
-unfoldable pub tickBy : Device → ℕ → ℕ → Ticked
-tickBy d reading step =
+unfoldable pub tickStep : Device → ℕ → ℕ → Ticked
+tickStep d reading step =
     cond (leb (2 ^ 31) step)
     (record { device = d; answer = ClockBack })
     (cond (all (fitsStep step) (d .connections))
     (record {
-      device = sweepOf (advanced d reading (map (tickedOf step) (d .connections)));
+      device = sweepOf (advanced d reading (map (connectionTicked step) (d .connections)));
       answer = Closed (mask (closesAt step) (d .connections));
     })
     (record { device = d; answer = Overrun }))
 
 abbrev pub tickOf : Device → ℕ → Ticked
-tickOf d reading = tickBy d reading (stepOf reading (d .reading))
+tickOf d reading = tickStep d reading (stepOf reading (d .reading))

@@ -6,7 +6,7 @@ use objects::Answer;
 use subscription::Subscription;
 ghost use mathlib.Core.Path.{_≡_};
 ghost use Rattle.device.specs.State.{freshOf, openOf, sweepOf, closeOf, heardAt, sentAt, toldAt, beatingAt};
-ghost use Rattle.device.specs.Rules.{deviceObeys};
+ghost use Rattle.device.specs.Obeys.{deviceObeys};
 ghost use Rattle.device.specs.Kept.{RulesKept, FailuresChangeNothing};
 ghost use Rattle.device.specs.Closure.{ClosureFrees};
 ghost use Rattle.device.specs.Time.{stepOf, tickOf};

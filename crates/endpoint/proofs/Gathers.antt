@@ -21,7 +21,7 @@ use Rattle.frame.proofs.Sounds.{sound-at}
 use Rattle.area.specs.Area.{partBytes, areaBytes, partAt, undecidedOf, ZerosBehind, partCleared}
 use Rattle.area.proofs.Clears.{zeros-further}
 use Rattle.frame.proofs.Bytes.{beyond}
-use Rattle.endpoint.specs.Deliver.{Lying, Whole, gathered}
+use Rattle.endpoint.specs.Deliver.{Lying, MessageLies, gathered}
 
 take-min : (a : ℕ) (l : List ℕ) → take (min a (length l)) l ≡ take a l
 take-min a l = go (decLe (length l) a)
@@ -162,7 +162,7 @@ module _ (area : List ℕ) (n k : ℕ) (w : Lying area n k) where
         ∙ zeros-further area n k u (omega arith) (omega (arith, w .few)) (w .zeroed)
 
     pub message-whole : (t : ℕ) → decide (undecidedOf area n k ++ piece) ≡ Sound t
-        → Whole (gathered area n k piece) n k t (k + min (partBytes - k) (length piece))
+        → MessageLies (gathered area n k piece) n k t (k + min (partBytes - k) (length piece))
     unfolding settled taken x p
     message-whole t e =
         let s : settled (decide (x ++ piece)) ≡ true = rw e in

@@ -16,7 +16,7 @@ use Rattle.octets.proofs.Scans.{zeros-of-all}
 use Rattle.frame.specs.Limits.{greatestSize}
 use Rattle.frame.specs.Decide.{decide, settled}
 use Rattle.area.specs.Area.{partBytes, areaBytes, partAt, partSound, partsSound, areaSound, undecidedOf, ZerosBehind, countObeys, heldObeys}
-use Rattle.device.specs.Rules.{deviceObeys}
+use Rattle.device.specs.Obeys.{deviceObeys}
 use Rattle.endpoint.specs.State.{livesIn, recordObeys}
 use Rattle.endpoint.specs.Deliver.{heldAt, Lying}
 use Rattle.endpoint.specs.declared.Record.{Record}

@@ -13,15 +13,15 @@ use Rattle.laws.specs.Lists.{all, allPairs, index}
 use Rattle.laws.proofs.Conds.{and-left, and-right}
 use Rattle.laws.proofs.Loops.{all-at}
 use Rattle.laws.proofs.Tables.{or-cases, clash}
-use Rattle.mechanism.specs.Rules.{mechanismObeys}
+use Rattle.mechanism.specs.Obeys.{mechanismObeys}
 use Rattle.layout.specs.Message.{atFront}
 use Rattle.area.specs.Area.{heldObeys}
 use Rattle.connection.specs.State.{connectionCount, closed, liveAt, lowestDue}
-use Rattle.connection.specs.Rules.{connectionObeys}
-use Rattle.connection.specs.Supervision.{heartbeatOf}
+use Rattle.connection.specs.Obeys.{connectionObeys}
+use Rattle.connection.specs.Supervision.{heartbeatKept}
 use Rattle.connection.specs.declared.Connection.{Connection}
 use Rattle.subscription.specs.State.{entryCount, isMute, isWaiting, free, changeEvent, lowestWaiting, withWaiting}
-use Rattle.subscription.specs.Rules.{isFree, isSound, entryObeys, apart}
+use Rattle.subscription.specs.Obeys.{isFree, isSound, entryObeys, apart}
 use Rattle.subscription.specs.declared.Subscription.{Subscription}
 use Rattle.objects.specs.Methods.{placeOf}
 use Rattle.objects.specs.Tests.{isMuteValue}
@@ -29,13 +29,13 @@ use Rattle.holders.specs.Holders.{holderObeys}
 use Rattle.heartbeat.specs.declared.Heartbeat.{Heartbeat}
 use Rattle.replies.specs.Bytes.{notificationBytes, keepAliveBytes}
 use Rattle.device.specs.State.{withSubscriptions, sentAt}
-use Rattle.device.specs.Rules.{deviceObeys}
+use Rattle.device.specs.Obeys.{deviceObeys}
 use Rattle.device.specs.Run.{muteAt}
 use Rattle.device.specs.declared.Device.{Device}
 use Rattle.endpoint.specs.State.{stateOf, livesIn, recordObeys}
 use Rattle.endpoint.specs.Numbers.{takingNumbers, Outcome, outcome}
 use Rattle.endpoint.specs.Deliver.{leastOutput}
-use Rattle.endpoint.specs.Take.{entryAt, notifiedOf, sentOut, notifying, reminding, takenBy, takeCall}
+use Rattle.endpoint.specs.Take.{subscriptionAt, notifiedOf, sentOut, notifying, reminding, takenBy, takeCall}
 use Rattle.endpoint.specs.declared.Record.{Record}
 use Rattle.endpoint.specs.declared.Taking.the-variants.{Nothing, Notification, KeepAlive, BadRecord, NoRoom}
 
@@ -80,11 +80,11 @@ module _ (r : Record) (o : recordObeys r ≡ true) where
   pub connection-obeys : (n : ℕ) → length (r .device .connections) ≡ 8 → n < 8 → connectionObeys (getD (r .device .connections) n closed) ≡ true
   connection-obeys n l h = all-at connectionObeys (r .device .connections) n closed (device-first (r .device) record-device .0) (omega arith)
 
-  pub emitter-mute : (i : ℕ) → length (r .device .subscriptions) ≡ 32 → i < 32 → isWaiting (entryAt (r .device) i) ≡ true → isMute (entryAt (r .device) i .emitter) ≡ true
+  pub emitter-mute : (i : ℕ) → length (r .device .subscriptions) ≡ 32 → i < 32 → isWaiting (subscriptionAt (r .device) i) ≡ true → isMute (subscriptionAt (r .device) i .emitter) ≡ true
   emitter-mute i l h w =
       let cs = r .device .connections in
       let e = all-at (entryObeys cs) (r .device .subscriptions) i free (device-first (r .device) record-device .1) (omega arith) in
-      waiting-mute cs (entryAt (r .device) i) e w
+      waiting-mute cs (subscriptionAt (r .device) i) e w
 
 -- ---- what is found
 pub index-meets : {A : Type 0} (p : A → Bool) (l : List A) (a : A) → index p l < length l → p (getD l (index p l) a) ≡ true
@@ -103,23 +103,23 @@ sent-is : (kind n k : ℕ) (m : List ℕ) (r : Record) (d f : Device) (out o : L
 unfolding sentOut
 sent-is kind n k m r d f out o p q e = rw (p, q, e)
 
-pub notified-is : (r : Record) (i at k : ℕ) (f : Device) (out o : List ℕ) → at ≡ placeOf (entryAt (r .device) i .emitter)
-    → k ≡ length (notificationBytes (entryAt (r .device) i) (getD (r .device .mutes) at 0))
-    → o ≡ atFront (notificationBytes (entryAt (r .device) i) (getD (r .device .mutes) at 0)) out
+pub notified-is : (r : Record) (i at k : ℕ) (f : Device) (out o : List ℕ) → at ≡ placeOf (subscriptionAt (r .device) i .emitter)
+    → k ≡ length (notificationBytes (subscriptionAt (r .device) i) (getD (r .device .mutes) at 0))
+    → o ≡ atFront (notificationBytes (subscriptionAt (r .device) i) (getD (r .device .mutes) at 0)) out
     → f ≡ notifiedOf (r .device) i
-    → outcome (takingNumbers (Notification (entryAt (r .device) i .connection) k)) (stateOf f (r .held)) [] o ≡ notifying r out i
+    → outcome (takingNumbers (Notification (subscriptionAt (r .device) i .connection) k)) (stateOf f (r .held)) [] o ≡ notifying r out i
 unfolding notifying muteAt takingNumbers
 notified-is r i at k f out o a p q e =
-    let s = entryAt (r .device) i in
+    let s = subscriptionAt (r .device) i in
     let m = notificationBytes s (getD (r .device .mutes) (placeOf (s .emitter)) 0) in
     sent-is 1 (s .connection) k m r (notifiedOf (r .device) i) f out o (rw a at p) (rw a at q) e
 
-pub reminded-is : (r : Record) (n k : ℕ) (h : Heartbeat) (f : Device) (out o : List ℕ) → h ≡ heartbeatOf (getD (r .device .connections) n closed)
+pub reminded-is : (r : Record) (n k : ℕ) (h : Heartbeat) (f : Device) (out o : List ℕ) → h ≡ heartbeatKept (getD (r .device .connections) n closed)
     → k ≡ length (keepAliveBytes h) → o ≡ atFront (keepAliveBytes h) out → f ≡ sentAt (r .device) n
     → outcome (takingNumbers (KeepAlive n k)) (stateOf f (r .held)) [] o ≡ reminding r out n
 unfolding reminding takingNumbers
 reminded-is r n k h f out o a p q e =
-    let m = keepAliveBytes (heartbeatOf (getD (r .device .connections) n closed)) in
+    let m = keepAliveBytes (heartbeatKept (getD (r .device .connections) n closed)) in
     sent-is 2 n k m r (sentAt (r .device) n) f out o (rw a at p) (rw a at q) e
 
 -- ---- the ways of a take

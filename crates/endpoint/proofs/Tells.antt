@@ -7,7 +7,7 @@ use lib.ListN.{getD}
 use lib.Dec.{eqb}
 use Rattle.laws.proofs.Inverse.{undone-tells}
 use Rattle.endpoint.specs.Numbers.{badRecord, badArea, noConnection, tableFull, clockBack, clearingNumbers, openingNumbers, closingNumbers, tickingNumbers, deliveryNumbers, takingNumbers, Outcome, outcome}
-use Rattle.endpoint.specs.Tell.{OneResult, AnswersTell}
+use Rattle.endpoint.specs.Tell.{SameResult, AnswersTell}
 use Rattle.endpoint.specs.declared.Record.{Record}
 use Rattle.endpoint.specs.declared.Clearing.{Clearing}
 use Rattle.endpoint.specs.declared.Clearing.the-variants as clearing
@@ -106,7 +106,7 @@ taking-back taking.BadRecord = refl
 taking-back taking.NoRoom = refl
 
 -- numbers that tell answers apart leave one result for an outcome
-pub one-result : {A : Type 0} (numbers : A → List ℕ) → ((a b : A) → numbers a ≡ numbers b → a ≡ b) → OneResult A numbers
+pub one-result : {A : Type 0} (numbers : A → List ℕ) → ((a b : A) → numbers a ≡ numbers b → a ≡ b) → SameResult A numbers
 one-result numbers tells a b s t x y v w o p q = (
   tells a b (ap (λ (z : Outcome). z .answer) (p ∙ sym q)),
   ap (λ (z : Outcome). z .state) (p ∙ sym q),

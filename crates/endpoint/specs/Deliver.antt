@@ -70,7 +70,7 @@ unfoldable pub gathered : List ℕ → ℕ → ℕ → List ℕ → List ℕ
 gathered area n k piece = sets area (partAt n + k) (take (partBytes - k) piece)
 
 -- a sound message of t bytes at the front of connection n's part, of which k were there before; u bytes lie there
-pub record Whole (area : List ℕ) (n k t u : ℕ) : Type 0 where
+pub record MessageLies (area : List ℕ) (n k t u : ℕ) : Type 0 where
   pub number : n < 8
   pub long : length area ≡ areaBytes
   pub behind : k ≤ t

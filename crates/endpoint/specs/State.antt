@@ -8,7 +8,7 @@ use Rattle.area.specs.Area.{heldObeys}
 use Rattle.connection.specs.State.{connectionCount}
 use Rattle.connection.specs.declared.Connection.{Connection}
 use Rattle.device.specs.State.{freshOf, closeOf}
-use Rattle.device.specs.Rules.{deviceObeys}
+use Rattle.device.specs.Obeys.{deviceObeys}
 use Rattle.device.specs.declared.Device.{Device}
 use Rattle.endpoint.specs.declared.Record.{Record}
 

@@ -6,7 +6,7 @@ use lib.ListN.{length, getD}
 use lib.Dec.{ltb}
 use Rattle.layout.specs.Message.{atFront}
 use Rattle.connection.specs.State.{connectionCount, closed, lowestDue}
-use Rattle.connection.specs.Supervision.{heartbeatOf}
+use Rattle.connection.specs.Supervision.{heartbeatKept}
 use Rattle.subscription.specs.State.{entryCount, free, lowestWaiting}
 use Rattle.subscription.specs.declared.Subscription.{Subscription}
 use Rattle.device.specs.State.{sentAt, toldAt}
@@ -19,11 +19,11 @@ use Rattle.endpoint.specs.Deliver.{leastOutput}
 use Rattle.endpoint.specs.declared.Record.{Record}
 
 -- the entry at a place, and the device once its notification is sent: "Taking sends the value of that moment, once"
-abbrev pub entryAt : Device → ℕ → Subscription
-entryAt d i = getD (d .subscriptions) i free
+abbrev pub subscriptionAt : Device → ℕ → Subscription
+subscriptionAt d i = getD (d .subscriptions) i free
 
 unfoldable pub notifiedOf : Device → ℕ → Device
-notifiedOf d i = sentAt (toldAt d i) (entryAt d i .connection)
+notifiedOf d i = sentAt (toldAt d i) (subscriptionAt d i .connection)
 
 -- one message for connection n at the output's front
 unfoldable pub sentOut : ℕ → ℕ → List ℕ → Record → Device → List ℕ → Outcome
@@ -32,13 +32,13 @@ sentOut kind n m r d out = outcome (0 ∷ kind ∷ n ∷ length m ∷ []) (state
 -- the notification of the entry at place i, with "the value of that moment"
 unfoldable pub notifying : Record → List ℕ → ℕ → Outcome
 notifying r out i =
-    sentOut 1 (entryAt (r .device) i .connection)
-    (notificationBytes (entryAt (r .device) i) (muteAt (r .device) (entryAt (r .device) i .emitter))) r (notifiedOf (r .device) i) out
+    sentOut 1 (subscriptionAt (r .device) i .connection)
+    (notificationBytes (subscriptionAt (r .device) i) (muteAt (r .device) (subscriptionAt (r .device) i .emitter))) r (notifiedOf (r .device) i) out
 
 -- "a keep-alive, in its form and with its H", for connection n
 unfoldable pub reminding : Record → List ℕ → ℕ → Outcome
 reminding r out n =
-    sentOut 2 n (keepAliveBytes (heartbeatOf (getD (r .device .connections) n closed))) r (sentAt (r .device) n) out
+    sentOut 2 n (keepAliveBytes (heartbeatKept (getD (r .device .connections) n closed))) r (sentAt (r .device) n) out
 
 -- "the lowest waiting entry, else a keep-alive, in its form and with its H, for the lowest connection due, else nothing"
 unfoldable pub takenBy : Record → List ℕ → ℕ → ℕ → Outcome

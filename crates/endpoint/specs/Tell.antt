@@ -12,8 +12,8 @@ use Rattle.endpoint.specs.declared.Delivery.{Delivery}
 use Rattle.endpoint.specs.declared.Taking.{Taking}
 
 -- two results of a call that its outcome allows have the same answer, record, area and output
-abbrev pub OneResult : (A : Type 0) → (A → List ℕ) → Type 0
-OneResult A numbers =
+abbrev pub SameResult : (A : Type 0) → (A → List ℕ) → Type 0
+SameResult A numbers =
     (a b : A) (s t : Record) (x y v w : List ℕ) (o : Outcome) → outcome (numbers a) s x v ≡ o → outcome (numbers b) t y w ≡ o
     → (a ≡ b) × (s ≡ t) × (x ≡ y) × (v ≡ w)
 
@@ -24,8 +24,8 @@ pub record AnswersTell : Type 0 where
   pub tickings : (a b : Ticking) → tickingNumbers a ≡ tickingNumbers b → a ≡ b
   pub deliveries : (a b : Delivery) → deliveryNumbers a ≡ deliveryNumbers b → a ≡ b
   pub takings : (a b : Taking) → takingNumbers a ≡ takingNumbers b → a ≡ b
-  pub opened : OneResult Opening openingNumbers
-  pub closed : OneResult Closing closingNumbers
-  pub ticked : OneResult Ticking tickingNumbers
-  pub delivered : OneResult Delivery deliveryNumbers
-  pub taken : OneResult Taking takingNumbers
+  pub opened : SameResult Opening openingNumbers
+  pub closed : SameResult Closing closingNumbers
+  pub ticked : SameResult Ticking tickingNumbers
+  pub delivered : SameResult Delivery deliveryNumbers
+  pub taken : SameResult Taking takingNumbers

@@ -12,7 +12,7 @@ ghost use Rattle.area.specs.Area.{undecidedOf};
 ghost use Rattle.rules.specs.Rule.{soundOf};
 ghost use Rattle.endpoint.specs.State.{stateOf};
 ghost use Rattle.endpoint.specs.Numbers.{deliveryNumbers, outcome};
-ghost use Rattle.endpoint.specs.Deliver.{leastOutput, heldAt, Lying, Whole, gathered, messaged, takenIn, deliverCall};
+ghost use Rattle.endpoint.specs.Deliver.{leastOutput, heldAt, Lying, MessageLies, gathered, messaged, takenIn, deliverCall};
 
 fn least(a: usize, b: usize) -> usize
     ensures { λ r. ⌜ r ≡ min a b ⌝ }
@@ -51,7 +51,7 @@ impl Record {
         used: usize,
         output: &mut [u8],
     ) -> Delivered
-        requires { ⌜ Whole (now area) n k t used × (leastOutput ≤ length (now output)) ⌝ }
+        requires { ⌜ MessageLies (now area) n k t used × (leastOutput ≤ length (now output)) ⌝ }
         ensures { λ r. ⌜ outcome (deliveryNumbers (r .answer)) (r .state) (now (area .exit)) (now (output .exit)) ≡ messaged (soundOf (self .device) n (undecidedOf (now (area .entry)) n t)) self (now (area .entry)) n (t - k) (now (output .entry)) ⌝ }
     {
         let at = n as usize;

@@ -12,7 +12,7 @@ ghost use Rattle.subscription.specs.State.{isWaiting};
 ghost use Rattle.endpoint.specs.State.{recordObeys};
 ghost use Rattle.endpoint.specs.Numbers.{takingNumbers, outcome};
 ghost use Rattle.endpoint.specs.Deliver.{leastOutput};
-ghost use Rattle.endpoint.specs.Take.{entryAt, notifiedOf, notifying, reminding, takeCall};
+ghost use Rattle.endpoint.specs.Take.{subscriptionAt, notifiedOf, notifying, reminding, takeCall};
 
 // The device once the notification of the entry at a place is sent.
 fn told(device: Device, at: usize) -> Device
@@ -27,7 +27,7 @@ fn told(device: Device, at: usize) -> Device
 impl Record {
     // The waiting entry at a place gets its notification.
     fn notified(mut self, output: &mut [u8], at: usize) -> Taken
-        requires { ⌜ (recordObeys self ≡ true) × (at < 32) × (isWaiting (entryAt (self .device) at) ≡ true) × (leastOutput ≤ length (now output)) ⌝ }
+        requires { ⌜ (recordObeys self ≡ true) × (at < 32) × (isWaiting (subscriptionAt (self .device) at) ≡ true) × (leastOutput ≤ length (now output)) ⌝ }
         ensures { λ r. ⌜ outcome (takingNumbers (r .answer)) (r .state) [] (now (output .exit)) ≡ notifying self (now (output .entry)) at ⌝ }
     {
         let device = self.device;

@@ -22,7 +22,7 @@ abbrev pub greatestOffset : ℕ
 greatestOffset = 18446744073709500000
 
 -- the buffers, and few bytes held, from an offset on that can be counted
-pub record Ready (input out : List ℕ) (offset held : ℕ) : Type 0 where
+pub record TurnReady (input out : List ℕ) (offset held : ℕ) : Type 0 where
   pub input-length : length input ≡ pieceBytes
   pub out-length : length out ≡ textBytes
   pub counted : offset < greatestOffset

@@ -15,7 +15,7 @@ ghost use Rattle.lines.specs.Puts.{PutsLine};
 ghost use Rattle.lister.specs.Listing.{messagesOf, lastLine};
 ghost use Rattle.lister.specs.Pieces.{overBy, Pieces};
 ghost use Rattle.lister.specs.Lists.{firstOf, Lists, ListsPiece};
-ghost use Rattle.lister.specs.Turns.{pieceBytes, Ready, Turned};
+ghost use Rattle.lister.specs.Turns.{pieceBytes, TurnReady, Turned};
 ghost use Rattle.lister.specs.Sample.{SampleListed};
 
 // The input's buffer. A message has at least 10 bytes and a line at most 40, so io's large buffer has room for the lines of a piece.
@@ -181,7 +181,7 @@ fn move_down(buf: &mut [u8], from: usize, n: usize)
 
 // Reads once, lists what came behind the bytes held, and keeps what is left.
 fn turn(input: &mut [u8], out: &mut [u8], offset: u64, held: usize) -> Next
-    requires { ⌜ Ready (now input) (now out) offset held ⌝ }
+    requires { ⌜ TurnReady (now input) (now out) offset held ⌝ }
     ensures { λ r. ⌜ Turned offset (take held (now (input .entry))) (now (input .exit)) (now (out .exit)) r ⌝ }
 {
     let got = read_more(input, held);

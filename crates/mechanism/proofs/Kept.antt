@@ -18,7 +18,7 @@ use Rattle.dotted.specs.Text.{dottedOf, textOf, dottedAs}
 use Rattle.dotted.proofs.Exacts.{dotted-exact}
 use Rattle.mechanism.specs.State.{noAddress, disarmed, withKey}
 use Rattle.mechanism.specs.Arguments.{textIn, portIn, isMulticast, isGroup, isTextTaken, addressOf, isUntaken, armedBy}
-use Rattle.mechanism.specs.Rules.{isAddressTaken, mechanismObeys}
+use Rattle.mechanism.specs.Obeys.{isAddressTaken, mechanismObeys}
 use Rattle.mechanism.specs.Datagram.{sentinel, resets}
 use Rattle.mechanism.specs.Kept.{MechanismKept, ResetsExactly, AddressesTaken}
 use Rattle.mechanism.specs.declared.Mechanism.{Mechanism}

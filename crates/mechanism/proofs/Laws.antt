@@ -18,7 +18,7 @@ use Rattle.dotted.specs.Text.{dottedOf}
 use Rattle.dotted.specs.declared.Dotted.{Dotted}
 use Rattle.mechanism.specs.State.{noAddress, disarmed}
 use Rattle.mechanism.specs.Arguments.{keyIn, textIn, portIn, isMisfit, isMulticast, isGroup, isTextTaken, addressOf, isUntaken, armedBy, armingOf}
-use Rattle.mechanism.specs.Rules.{isAddressTaken, mechanismObeys}
+use Rattle.mechanism.specs.Obeys.{isAddressTaken, mechanismObeys}
 use Rattle.mechanism.specs.Datagram.{sentinel, resets}
 use Rattle.mechanism.specs.declared.Mechanism.{Mechanism}
 use Rattle.mechanism.specs.declared.Arming.{Arming}

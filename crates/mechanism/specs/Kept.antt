@@ -6,7 +6,7 @@ use mathlib.Core.List.{List, [], _∷_, _++_}
 use lib.ListN.{length}
 use Rattle.mechanism.specs.State.{disarmed, withKey}
 use Rattle.mechanism.specs.Arguments.{isUntaken, armedBy, isTextTaken, addressOf}
-use Rattle.mechanism.specs.Rules.{isAddressTaken, mechanismObeys}
+use Rattle.mechanism.specs.Obeys.{isAddressTaken, mechanismObeys}
 use Rattle.mechanism.specs.Datagram.{sentinel, resets}
 use Rattle.mechanism.specs.declared.Mechanism.{Mechanism}
 

@@ -1,5 +1,5 @@
 pub mod State
 pub mod Arguments
-pub mod Rules
+pub mod Obeys
 pub mod Datagram
 pub mod Kept

@@ -8,7 +8,7 @@ ghost use Rattle.octets.specs.Zeros.{allZero};
 ghost use Rattle.octets.specs.Same.{sameBytes};
 ghost use Rattle.mechanism.specs.State.{noAddress};
 ghost use Rattle.mechanism.specs.Arguments.{keyIn, isMisfit, isMulticast, isGroup, armingOf};
-ghost use Rattle.mechanism.specs.Rules.{mechanismObeys};
+ghost use Rattle.mechanism.specs.Obeys.{mechanismObeys};
 ghost use Rattle.mechanism.specs.Datagram.{resets};
 ghost use Rattle.mechanism.specs.Kept.{MechanismKept, ResetsExactly, AddressesTaken};
 

@@ -12,7 +12,7 @@ use Rattle.laws.proofs.Tables.{or-neither}
 use Rattle.mechanism.specs.Arguments.{isMisfit}
 use Rattle.subscription.specs.State.{isMute}
 use Rattle.objects.specs.Methods.{resetKeyMethod, placeOf, isObject, hasMethod}
-use Rattle.objects.specs.Answers.{classOf, identificationOf, toldOf}
+use Rattle.objects.specs.Answers.{classOf, identificationOf, answerWith}
 use Rattle.objects.specs.Tests.{isForbidden, countOf, lengthOf, isLengthBad, isPairBad, isMalformed, firstStatus, Allowed}
 
 -- ---- a mute
@@ -118,14 +118,14 @@ first-allowed t m count part e =
 
 -- ---- class identification
 module _ (target : ℕ) (b : Bool) (q : b ≡ isMute target) where
-  pub class-mute : b ≡ true → toldOf (identificationOf (1 ∷ 1 ∷ 1 ∷ 2 ∷ [])) ≡ toldOf (identificationOf (classOf target))
+  pub class-mute : b ≡ true → answerWith (identificationOf (1 ∷ 1 ∷ 1 ∷ 2 ∷ [])) ≡ answerWith (identificationOf (classOf target))
   unfolding classOf
   class-mute t = rw (← q, t)
 
-  pub class-device : b ≡ false → target ≡ 1 → toldOf (identificationOf (1 ∷ 3 ∷ 1 ∷ [])) ≡ toldOf (identificationOf (classOf target))
+  pub class-device : b ≡ false → target ≡ 1 → answerWith (identificationOf (1 ∷ 3 ∷ 1 ∷ [])) ≡ answerWith (identificationOf (classOf target))
   unfolding classOf
   class-device t e = rw (← q, t, eq-eqb target 1 e)
 
-  pub class-subscription : b ≡ false → (target ≡ 1 → ⊥) → toldOf (identificationOf (1 ∷ 3 ∷ 4 ∷ [])) ≡ toldOf (identificationOf (classOf target))
+  pub class-subscription : b ≡ false → (target ≡ 1 → ⊥) → answerWith (identificationOf (1 ∷ 3 ∷ 4 ∷ [])) ≡ answerWith (identificationOf (classOf target))
   unfolding classOf
   class-subscription t n = rw (← q, t, ne-eqb target 1 n)

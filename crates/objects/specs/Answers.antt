@@ -45,8 +45,8 @@ unfoldable pub failedOf : ℕ → Answer
 failedOf status = record { status = status; count = 0; length = 0; bytes = replicate replyRoom 0 }
 
 -- status 0 with these bytes: one parameter, or none where there are no bytes
-unfoldable pub toldOf : List ℕ → Answer
-toldOf bytes =
+unfoldable pub answerWith : List ℕ → Answer
+answerWith bytes =
     record {
       status = 0;
       count = cond (eqb (length bytes) 0) 0 1;

@@ -36,8 +36,8 @@ unfoldable pub isMalformed : ℕ → ℕ → List ℕ → Bool
 isMalformed m count part = not (eqb count (countOf m)) || isLengthBad m part || isPairBad m part
 
 -- the arguments of 3.1 and 3.2: "emitter and event 8, subscriber object and method 8, context 4, mode 1"; 3.2 ends before the context
-unfoldable pub entryOf : ℕ → List ℕ → Subscription
-entryOf n part =
+unfoldable pub subscriptionFrom : ℕ → List ℕ → Subscription
+subscriptionFrom n part =
     record {
       used = true;
       waiting = false;

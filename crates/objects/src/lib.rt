@@ -8,8 +8,8 @@ ghost use lib.ListN.{length};
 ghost use Rattle.laws.specs.Lists.{all};
 ghost use Rattle.subscription.specs.State.{isMute};
 ghost use Rattle.objects.specs.Methods.{MethodsApart, methodNumber, placeOf, isManager, isObject, isTelling, isLocking, hasMethod};
-ghost use Rattle.objects.specs.Tests.{isForbidden, countOf, lengthOf, isMalformed, firstStatus, entryOf, withContext, isStrange, isMuteValue};
-ghost use Rattle.objects.specs.Answers.{classOf, identificationOf, failedOf, toldOf};
+ghost use Rattle.objects.specs.Tests.{isForbidden, countOf, lengthOf, isMalformed, firstStatus, subscriptionFrom, withContext, isStrange, isMuteValue};
+ghost use Rattle.objects.specs.Answers.{classOf, identificationOf, failedOf, answerWith};
 
 pub const MUTES: usize = 8;
 
@@ -201,7 +201,7 @@ pub fn first_status(target: u32, m: u32, count: u8, part: &[u8]) -> u8
 // The arguments of add and remove; remove has no context.
 pub fn entry(n: u8, part: &[u8], context: u32) -> Subscription
     requires { ⌜ 16 ≤ length (now part) ⌝ }
-    ensures { λ r. ⌜ r ≡ withContext (entryOf n (now (part .entry))) context ⌝ }
+    ensures { λ r. ⌜ r ≡ withContext (subscriptionFrom n (now (part .entry))) context ⌝ }
 {
     let emitter = octets::be32(part, 0);
     let event = octets::be32(part, 4);
@@ -267,7 +267,7 @@ impl Answer {
     }
 
     pub fn done() -> Answer
-        ensures { λ r. ⌜ r ≡ toldOf [] ⌝ }
+        ensures { λ r. ⌜ r ≡ answerWith [] ⌝ }
     {
         let bytes = [0u8; 12];
         Answer {
@@ -279,7 +279,7 @@ impl Answer {
     }
 
     pub fn byte(v: u8) -> Answer
-        ensures { λ r. ⌜ r ≡ toldOf (v ∷ []) ⌝ }
+        ensures { λ r. ⌜ r ≡ answerWith (v ∷ []) ⌝ }
     {
         let mut bytes = [0u8; 12];
         bytes[0] = v;
@@ -293,7 +293,7 @@ impl Answer {
 
     // Class 1.1.1.2 of a mute; 1.3.1 or 1.3.4 of a manager.
     pub fn class(target: u32) -> Answer
-        ensures { λ r. ⌜ r ≡ toldOf (identificationOf (classOf target)) ⌝ }
+        ensures { λ r. ⌜ r ≡ answerWith (identificationOf (classOf target)) ⌝ }
     {
         if subscription::is_mute(target) {
             let bytes = [0u8, 4, 0, 1, 0, 1, 0, 1, 0, 2, 0, 1];

@@ -18,15 +18,15 @@ use Rattle.frame.specs.Decide.{decide}
 use Rattle.frame.specs.declared.Decision.the-variants.{Sound}
 use Rattle.area.specs.Area.{heldObeys, areaSound}
 use Rattle.connection.specs.State.{closed, liveAt, isDue, lowestDue}
-use Rattle.connection.specs.Rules.{isClosed, isIdle, formObeys, isTimed, connectionObeys}
-use Rattle.connection.specs.Supervision.{closesAt, counted, quietAfter, tickedOf, heardOf, sentOf, heartbeatOf}
+use Rattle.connection.specs.Obeys.{isClosed, isIdle, formObeys, isTimed, connectionObeys}
+use Rattle.connection.specs.Supervision.{closesAt, counted, quietAfter, connectionTicked, heardOf, sentOf, heartbeatKept}
 use Rattle.connection.specs.declared.Connection.{Connection}
 use Rattle.connection.proofs.Keeps.{supervision-kept}
 use Rattle.subscription.specs.State.{isWaiting, toldOf, lowestWaiting}
 use Rattle.subscription.specs.declared.Subscription.{Subscription}
 use Rattle.replies.specs.Bytes.{keepAliveBytes, notificationBytes}
 use Rattle.device.specs.State.{heardAt, sentAt, toldAt}
-use Rattle.device.specs.Rules.{deviceObeys}
+use Rattle.device.specs.Obeys.{deviceObeys}
 use Rattle.device.specs.Run.{muteAt}
 use Rattle.device.specs.declared.Device.{Device}
 use Rattle.device.proofs.Keeps.{rules-kept}
@@ -36,11 +36,11 @@ use Rattle.endpoint.specs.State.{stateOf, livesIn, recordObeys}
 use Rattle.endpoint.specs.Numbers.{Outcome, refused}
 use Rattle.endpoint.specs.Calls.{tickCall}
 use Rattle.endpoint.specs.Deliver.{leastOutput, heldAt, messaged, deliveredBy, takenIn, deliverCall}
-use Rattle.endpoint.specs.Take.{entryAt, notifiedOf, sentOut, notifying, reminding, takenBy, takeCall}
+use Rattle.endpoint.specs.Take.{subscriptionAt, notifiedOf, sentOut, notifying, reminding, takenBy, takeCall}
 use Rattle.endpoint.specs.declared.Record.{Record}
 use Rattle.endpoint.proofs.States.{live-low}
 use Rattle.endpoint.proofs.Takes.{connection-obeys}
-use Rattle.promise.specs.Rules.{ticking, callOf}
+use Rattle.promise.specs.Rulebook.{ticking, callOf}
 use Rattle.promise.specs.Kept.{Kept}
 use Rattle.promise.specs.Technician.{stepAt, passes}
 use Rattle.promise.specs.Heartbeats.{Paced, openAfter, openAtLast, broughtBy, isUnanswered, Ready, Reminds, SendsTo, count, somethingWaits, waitingIn, takesCall, HeartbeatSent, ticksCall, allPass, ticksTime}
@@ -62,16 +62,16 @@ paced-as d e n H q b w s q' b' f =
 
 -- ---- a tick of one connection that stays open
 module _ (step : ℕ) (c : Connection) (z : eqb (c .beat) 0 ≡ false) (k : closesAt step c ≡ false) where
-  falls-due : c .due ≡ false → c .beat ≤ c .quiet + step → tickedOf step c ≡ counted c (c .silence + step) 0 true
-  unfolding tickedOf quietAfter
+  falls-due : c .due ≡ false → c .beat ≤ c .quiet + step → connectionTicked step c ≡ counted c (c .silence + step) 0 true
+  unfolding connectionTicked quietAfter
   falls-due d h = rw (z, k, d, le-leb (c .beat) (c .quiet + step) h)
 
-  counts-on : c .due ≡ false → c .quiet + step < c .beat → tickedOf step c ≡ counted c (c .silence + step) (c .quiet + step) false
-  unfolding tickedOf quietAfter
+  counts-on : c .due ≡ false → c .quiet + step < c .beat → connectionTicked step c ≡ counted c (c .silence + step) (c .quiet + step) false
+  unfolding connectionTicked quietAfter
   counts-on d h = rw (z, k, d, lt-leb (c .beat) (c .quiet + step) h)
 
-  keeps-due : c .due ≡ true → tickedOf step c ≡ counted c (c .silence + step) (c .quiet) true
-  unfolding tickedOf quietAfter
+  keeps-due : c .due ≡ true → connectionTicked step c ≡ counted c (c .silence + step) (c .quiet) true
+  unfolding connectionTicked quietAfter
   keeps-due d = rw (z, k, d)
 
 -- connection n of the record
@@ -94,7 +94,7 @@ module _ (r : Record) (area : List ℕ) (reading : ℕ) (p : passes r area readi
     beats : eqb (connectionAt r n .beat) 0 ≡ false
     beats = rw (w .beat) (ne-eqb H 0 (λ z. omega (arith, w .above)))
 
-    paced : (s q' : ℕ) (b' : Bool) → tickedOf (stepAt r reading) (connectionAt r n) ≡ counted (connectionAt r n) s q' b' → Paced (tickCall r area reading .state .device) n H q' b'
+    paced : (s q' : ℕ) (b' : Bool) → connectionTicked (stepAt r reading) (connectionAt r n) ≡ counted (connectionAt r n) s q' b' → Paced (tickCall r area reading .state .device) n H q' b'
     paced s q' b' e = paced-as (r .device) (tickCall r area reading .state .device) n H q b w s q' b' (connection-after r area reading p n ∙ e)
 
   due : (H q : ℕ) → Paced (r .device) n H q false → H ≤ q + stepAt r reading → Paced (tickCall r area reading .state .device) n H 0 true
@@ -192,8 +192,8 @@ formed c h z =
     let b : isTimed c ≡ true = rw (idle-not c z) at (and-right (c .live) (isIdle c || isTimed c) a) in
     and-right (not (eqb (c .beat) 0) && ltb (c .silence) (3 * c .beat) && ltb (c .quiet) (c .beat) && (not (c .due) || eqb (c .quiet) 0)) (formObeys c) b
 
-told-form : (c : Connection) → formObeys c ≡ true → (formOf (heartbeatOf c) ≡ c .form) × (beatOf (heartbeatOf c) ≡ c .beat)
-unfolding formObeys heartbeatOf formOf beatOf
+told-form : (c : Connection) → formObeys c ≡ true → (formOf (heartbeatKept c) ≡ c .form) × (beatOf (heartbeatKept c) ≡ c .beat)
+unfolding formObeys heartbeatKept formOf beatOf
 told-form c h =
     ⊎-elim
     (λ (s : eqb (c .form) 1 && eqb (c .beat % 1000) 0 && leb (c .beat) 65535000 ≡ true).
@@ -334,7 +334,7 @@ module _ (r : Record) (out : List ℕ) (y : Ready r) (room : leastOutput ≤ len
   unfolding notifying sentOut notifiedOf sentAt toldAt waitingIn
   told e =
       let d = r .device in
-      let s = entryAt d (entry r) in
+      let s = subscriptionAt d (entry r) in
       let g = cleared (d .connections) (s .connection) (getD (d .connections) (s .connection) closed) in
       let w = count-less isWaiting (d .subscriptions) (toldOf s) (told-waits s) e in
       let v = count-set isDue (d .connections) (s .connection) (sentOf (getD (d .connections) (s .connection) closed)) (sent-due _) in
@@ -370,7 +370,7 @@ module _ (r : Record) (out : List ℕ) (y : Ready r) (room : leastOutput ≤ len
         sends =
             record {
               kind = 2;
-              size = length (keepAliveBytes (heartbeatOf (connectionAt r n)));
+              size = length (keepAliveBytes (heartbeatKept (connectionAt r n)));
               some = omega arith;
               answer = rw q refl;
               quiet = rw q (g .0);
@@ -399,7 +399,7 @@ module _ (r : Record) (out : List ℕ) (y : Ready r) (room : leastOutput ≤ len
       let k = told-form (connectionAt r n) (formed (connectionAt r n) (connection-obeys r (y .obeys) n (y .eight) low) z) in
       let g = rw f at (reminded e (any-at isDue (d .connections) n closed refl (w .marked))) in
       record {
-        heartbeat = heartbeatOf (connectionAt r n);
+        heartbeat = heartbeatKept (connectionAt r n);
         form = k .0;
         beat = k .1 ∙ w .beat;
         answer = rw g refl;

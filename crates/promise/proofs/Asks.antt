@@ -11,30 +11,30 @@ use Rattle.laws.specs.Lists.{all, mask}
 use Rattle.mechanism.specs.Datagram.{resets}
 use Rattle.area.specs.Area.{areaSound, partCleared, closedCleared, heldKept}
 use Rattle.connection.specs.State.{connectionCount, closed, liveAt, lowestDue}
-use Rattle.connection.specs.Supervision.{fitsStep, closesAt, tickedOf}
+use Rattle.connection.specs.Supervision.{fitsStep, closesAt, connectionTicked}
 use Rattle.frame.specs.Decide.{decide, settled}
 use Rattle.subscription.specs.State.{entryCount, lowestWaiting}
 use Rattle.device.specs.State.{freshOf, openOf, closeOf, sweepOf, sentAt, toldAt}
-use Rattle.device.specs.Time.{stepOf, advanced, tickBy, tickOf}
+use Rattle.device.specs.Time.{stepOf, advanced, tickStep, tickOf}
 use Rattle.device.specs.declared.Device.{Device}
 use Rattle.device.specs.declared.Opening.{Opening}
 use Rattle.device.specs.declared.Opening.the-variants as opens
 use Rattle.device.specs.declared.Ticking.{Ticking}
 use Rattle.device.specs.declared.Ticking.the-variants as ticks
 use Rattle.device.specs.declared.Ticked.{Ticked}
-use Rattle.stream.specs.Machine.{Call, deliver, ask, Whole, message, asked, Answer, more, refused, done, Held, none-held, put, only, whole, delivered, step}
-use Rattle.stream.specs.Lent.{flat, counted, livesOf}
+use Rattle.stream.specs.Machine.{Call, deliver, ask, Whole, handed, asked, Answer, more, denied, gave, Held, none-held, put, only, whole, delivered, step}
+use Rattle.stream.specs.Lent.{flat, countsOf, livesOf}
 use Rattle.stream.proofs.Lent.{put-same, put-other, set-counted, clear-flat, closed-flat, held-counted, counted-none, flat-none}
 use Rattle.endpoint.specs.State.{stateOf, freshState, livesIn, recordObeys, closedState}
 use Rattle.endpoint.specs.Numbers.{Outcome, outcome}
 use Rattle.endpoint.specs.Calls.{openedBy, openCall, closeCall, tickedBy, tickCall}
 use Rattle.endpoint.specs.Deliver.{leastOutput, takenIn, deliverCall}
-use Rattle.endpoint.specs.Take.{entryAt, notifiedOf, sentOut, notifying, reminding, takenBy, takeCall}
+use Rattle.endpoint.specs.Take.{subscriptionAt, notifiedOf, sentOut, notifying, reminding, takenBy, takeCall}
 use Rattle.reset.specs.Datagram.{restarted, datagramCall}
 use Rattle.endpoint.specs.declared.Record.{Record}
 use Rattle.endpoint.proofs.States.{live-low}
-use Rattle.promise.specs.Rules as rules
-use Rattle.promise.specs.Rules.{Ask, opening, closing, ticking, taking, datagram, Given, given, rule, openBy, closeBy, takeBy, resetBy, open?, admit, shut, Fine, callOf, toldOf}
+use Rattle.promise.specs.Rulebook as rules
+use Rattle.promise.specs.Rulebook.{Ask, opening, closing, ticking, taking, datagram, Given, given, rule, openBy, closeBy, takeBy, resetBy, open?, admit, shut, Fine, callOf, outcomeOf}
 use Rattle.promise.proofs.Lives.{GoodAt, record-obeys, only-same, live-closed, live-gone, live-alike, lives-sent, lives-told, open-still, lives-eight, fresh-shut}
 use Rattle.promise.proofs.Bridge.{small, area-sound, taken-told}
 
@@ -45,7 +45,7 @@ asks d h a = whole rule open? admit d h (asked a) 0
 abbrev pub Told : Device → Held → Call Ask (List ℕ) → Type 0
 Told d h c =
     let s = step rule open? admit d h c in
-    callOf (stateOf d (counted h 8)) (flat h 8) c ≡ toldOf c (s .0 .0) (s .0 .1) (s .1)
+    callOf (stateOf d (countsOf h 8)) (flat h 8) c ≡ outcomeOf c (s .0 .0) (s .0 .1) (s .1)
 
 -- what a taking comes to, by whether an entry waits and a connection is due
 abbrev ways : Bool → Bool → Record → List ℕ → ℕ → ℕ → Outcome
@@ -67,14 +67,14 @@ module _ (d : Device) (h : Held) (good : GoodAt d h) where
   same = alike d refl
 
   pub open-told : Told d h (ask opening)
-  unfolding callOf openCall step whole rule toldOf openedBy openBy
+  unfolding callOf openCall step whole rule outcomeOf openedBy openBy
   open-told = rw (record-obeys d h good) (go (openOf d .answer))
     where
       go : (x : Opening)
-          → let o = openedBy x (stateOf d (counted h 8)) (openOf d) in
+          → let o = openedBy x (stateOf d (countsOf h 8)) (openOf d) in
           let s = openBy x d (openOf d .device) in
           outcome (o .answer) (o .state) (flat h 8) []
-          ≡ outcome (s .1 .answer) (stateOf (s .0) (counted (only (open? (s .0)) h) 8)) (flat (only (open? (s .0)) h) 8) (s .1 .output)
+          ≡ outcome (s .1 .answer) (stateOf (s .0) (countsOf (only (open? (s .0)) h) 8)) (flat (only (open? (s .0)) h) 8) (s .1 .output)
       go (opens.Number i) = rw (still (openOf d .device) (open-still d))
       go opens.Full = rw same
 
@@ -89,14 +89,14 @@ module _ (d : Device) (h : Held) (good : GoodAt d h) where
       go k false e false q = rw (live-closed d n k e, q) (sym (put-other h n [] k (eqb-false k n e) ∙ good .empty k q))
 
   pub close-told : (n : ℕ) → Told d h (ask (closing n))
-  unfolding callOf closeCall step whole rule toldOf closeBy closedState
+  unfolding callOf closeCall step whole rule outcomeOf closeBy closedState
   close-told n = rw (record-obeys d h good, area-sound d h good) (go (liveAt (d .connections) n) refl)
     where
       go : (b : Bool) → liveAt (d .connections) n ≡ b
           → let s = closeBy b d n in
-          cond {A = Outcome} b (outcome (0 ∷ []) (closedState (stateOf d (counted h 8)) n) (partCleared (flat h 8) n) [])
-          (outcome (3 ∷ []) (stateOf d (counted h 8)) (flat h 8) [])
-          ≡ outcome (s .1 .answer) (stateOf (s .0) (counted (only (open? (s .0)) h) 8)) (flat (only (open? (s .0)) h) 8) (s .1 .output)
+          cond {A = Outcome} b (outcome (0 ∷ []) (closedState (stateOf d (countsOf h 8)) n) (partCleared (flat h 8) n) [])
+          (outcome (3 ∷ []) (stateOf d (countsOf h 8)) (flat h 8) [])
+          ≡ outcome (s .1 .answer) (stateOf (s .0) (countsOf (only (open? (s .0)) h) 8)) (flat (only (open? (s .0)) h) 8) (s .1 .output)
       go true l =
           let low = live-low (d .connections) n 8 l (good .fine .eight) in
           rw (closed-bytes n, set-counted h 8 n [] low, clear-flat h 8 n (small d h good) low)
@@ -104,32 +104,32 @@ module _ (d : Device) (h : Held) (good : GoodAt d h) where
 
   -- a tick keeps the number of connections
   pub length-ticked : (reading : ℕ) → length (tickOf d reading .device .connections) ≡ 8
-  unfolding tickBy sweepOf
+  unfolding tickStep sweepOf
   length-ticked reading = go (leb (2 ^ 31) (stepOf reading (d .reading))) (all (fitsStep (stepOf reading (d .reading))) (d .connections))
     where
       go : (a b : Bool)
           → length (cond {A = Ticked} a (record { device = d; answer = ticks.ClockBack })
-          (cond b (record { device = sweepOf (advanced d reading (map (tickedOf (stepOf reading (d .reading))) (d .connections))); answer = ticks.Closed (mask (closesAt (stepOf reading (d .reading))) (d .connections)) })
+          (cond b (record { device = sweepOf (advanced d reading (map (connectionTicked (stepOf reading (d .reading))) (d .connections))); answer = ticks.Closed (mask (closesAt (stepOf reading (d .reading))) (d .connections)) })
           (record { device = d; answer = ticks.Overrun })) .device .connections) ≡ 8
       go true b = good .fine .eight
-      go false true = length-map (d .connections) (tickedOf (stepOf reading (d .reading))) ∙ good .fine .eight
+      go false true = length-map (d .connections) (connectionTicked (stepOf reading (d .reading))) ∙ good .fine .eight
       go false false = good .fine .eight
 
   -- whoever is then not open has no count and no byte
-  pub ticked-counts : (reading : ℕ) → heldKept (livesIn (tickOf d reading .device)) (counted h 8) ≡ counted (only (open? (tickOf d reading .device)) h) 8
+  pub ticked-counts : (reading : ℕ) → heldKept (livesIn (tickOf d reading .device)) (countsOf h 8) ≡ countsOf (only (open? (tickOf d reading .device)) h) 8
   ticked-counts reading = rw (← lives-eight (tickOf d reading .device) (length-ticked reading)) (held-counted (open? (tickOf d reading .device)) h 8)
 
   pub ticked-area : (reading : ℕ) → closedCleared (livesIn (tickOf d reading .device)) (flat h 8) ≡ flat (only (open? (tickOf d reading .device)) h) 8
   ticked-area reading = rw (← lives-eight (tickOf d reading .device) (length-ticked reading)) (closed-flat (open? (tickOf d reading .device)) h 8 (small d h good))
 
   pub tick-told : (reading : ℕ) → Told d h (ask (ticking reading))
-  unfolding callOf tickCall step whole rule toldOf tickedBy rules.tickBy
+  unfolding callOf tickCall step whole rule outcomeOf tickedBy rules.tickBy
   tick-told reading = rw (record-obeys d h good, area-sound d h good) (go (tickOf d reading .answer))
     where
       go : (x : Ticking)
           → let s = rules.tickBy x d (tickOf d reading .device) in
-          tickedBy x (stateOf d (counted h 8)) (tickOf d reading) (flat h 8)
-          ≡ outcome (s .1 .answer) (stateOf (s .0) (counted (only (open? (s .0)) h) 8)) (flat (only (open? (s .0)) h) 8) (s .1 .output)
+          tickedBy x (stateOf d (countsOf h 8)) (tickOf d reading) (flat h 8)
+          ≡ outcome (s .1 .answer) (stateOf (s .0) (countsOf (only (open? (s .0)) h) 8)) (flat (only (open? (s .0)) h) 8) (s .1 .output)
       go (ticks.Closed m) = rw (ticked-counts reading, ticked-area reading)
       go ticks.ClockBack = rw same
       go ticks.Overrun = rw same
@@ -137,26 +137,26 @@ module _ (d : Device) (h : Held) (good : GoodAt d h) where
   -- the device after a taking has the same connections open
   notified-lives : (i : ℕ) → livesIn (notifiedOf d i) ≡ livesIn d
   unfolding notifiedOf
-  notified-lives i = lives-sent (toldAt d i) (entryAt d i .connection) ∙ lives-told d i
+  notified-lives i = lives-sent (toldAt d i) (subscriptionAt d i .connection) ∙ lives-told d i
 
   pub take-told : (out : List ℕ) → Told d h (ask (taking out))
-  unfolding callOf takeCall step whole rule toldOf takeBy takenBy notifying reminding sentOut
+  unfolding callOf takeCall step whole rule outcomeOf takeBy takenBy notifying reminding sentOut
   take-told out = rw (record-obeys d h good) (go (ltb (length out) leastOutput))
     where
       way : (b c : Bool)
-          → let o = ways b c (stateOf d (counted h 8)) out (lowestWaiting (d .subscriptions)) (lowestDue (d .connections)) in
+          → let o = ways b c (stateOf d (countsOf h 8)) out (lowestWaiting (d .subscriptions)) (lowestDue (d .connections)) in
           let q = ways b c (stateOf d []) out (lowestWaiting (d .subscriptions)) (lowestDue (d .connections)) in
           outcome (o .answer) (o .state) (flat h 8) (o .output)
-          ≡ outcome (q .answer) (stateOf (q .state .device) (counted (only (open? (q .state .device)) h) 8)) (flat (only (open? (q .state .device)) h) 8) (q .output)
+          ≡ outcome (q .answer) (stateOf (q .state .device) (countsOf (only (open? (q .state .device)) h) 8)) (flat (only (open? (q .state .device)) h) 8) (q .output)
       way true c = rw (alike (notifiedOf d (lowestWaiting (d .subscriptions))) (notified-lives (lowestWaiting (d .subscriptions))))
       way false true = rw (alike (sentAt d (lowestDue (d .connections))) (lives-sent d (lowestDue (d .connections))))
       way false false = rw same
 
       go : (a : Bool)
-          → let o = cond {A = Outcome} a (outcome (4 ∷ []) (stateOf d (counted h 8)) [] out) (takenBy (stateOf d (counted h 8)) out (lowestWaiting (d .subscriptions)) (lowestDue (d .connections))) in
+          → let o = cond {A = Outcome} a (outcome (4 ∷ []) (stateOf d (countsOf h 8)) [] out) (takenBy (stateOf d (countsOf h 8)) out (lowestWaiting (d .subscriptions)) (lowestDue (d .connections))) in
           let s = takeBy a d out in
           outcome (o .answer) (o .state) (flat h 8) (o .output)
-          ≡ outcome (s .1 .answer) (stateOf (s .0) (counted (only (open? (s .0)) h) 8)) (flat (only (open? (s .0)) h) 8) (s .1 .output)
+          ≡ outcome (s .1 .answer) (stateOf (s .0) (countsOf (only (open? (s .0)) h) 8)) (flat (only (open? (s .0)) h) 8) (s .1 .output)
       go true = rw same
       go false = way (ltb (lowestWaiting (d .subscriptions)) entryCount) (ltb (lowestDue (d .connections)) connectionCount)
 
@@ -166,26 +166,26 @@ module _ (d : Device) (h : Held) (good : GoodAt d h) where
   none-left reading = fun-ext λ n. rw (fresh-shut reading n)
 
   pub datagram-told : (g : List ℕ) → Told d h (ask (datagram g))
-  unfolding callOf datagramCall restarted step whole rule toldOf resetBy freshState
+  unfolding callOf datagramCall restarted step whole rule outcomeOf resetBy freshState
   datagram-told g = rw (record-obeys d h good, area-sound d h good) (go (resets (d .mechanism) g))
     where
       go : (b : Bool)
           → let s = resetBy b d in
-          cond {A = Outcome} b (restarted (stateOf d (counted h 8))) (outcome (0 ∷ 0 ∷ []) (stateOf d (counted h 8)) (flat h 8) [])
-          ≡ outcome (s .1 .answer) (stateOf (s .0) (counted (only (open? (s .0)) h) 8)) (flat (only (open? (s .0)) h) 8) (s .1 .output)
+          cond {A = Outcome} b (restarted (stateOf d (countsOf h 8))) (outcome (0 ∷ 0 ∷ []) (stateOf d (countsOf h 8)) (flat h 8) [])
+          ≡ outcome (s .1 .answer) (stateOf (s .0) (countsOf (only (open? (s .0)) h) 8)) (flat (only (open? (s .0)) h) 8) (s .1 .output)
       go true = rw (none-left (d .reading), counted-none 8, flat-none 8)
       go false = rw same
 
   pub deliver-told : (n : ℕ) (p out : List ℕ) → Told d h (deliver n p out)
-  unfolding callOf deliverCall step admit toldOf delivered
+  unfolding callOf deliverCall step admit outcomeOf delivered
   deliver-told n p out =
       rw (record-obeys d h good, area-sound d h good) (go (liveAt (d .connections) n) refl (ltb (length out) leastOutput))
     where
       go : (l : Bool) → liveAt (d .connections) n ≡ l → (b : Bool)
           → let s = delivered rule open? admit (cond l (cond b 4 0) 3) (settled (decide (h n ++ p))) d h n p out in
-          cond {A = Outcome} l (cond b (outcome (4 ∷ []) (stateOf d (counted h 8)) (flat h 8) out) (takenIn (stateOf d (counted h 8)) (flat h 8) n (getD (counted h 8) n 0) p out))
-          (outcome (3 ∷ []) (stateOf d (counted h 8)) (flat h 8) out)
-          ≡ toldOf (deliver n p out) (s .0 .0) (s .0 .1) (s .1)
+          cond {A = Outcome} l (cond b (outcome (4 ∷ []) (stateOf d (countsOf h 8)) (flat h 8) out) (takenIn (stateOf d (countsOf h 8)) (flat h 8) n (getD (countsOf h 8) n 0) p out))
+          (outcome (3 ∷ []) (stateOf d (countsOf h 8)) (flat h 8) out)
+          ≡ outcomeOf (deliver n p out) (s .0 .0) (s .0 .1) (s .1)
       go false e b = refl
       go true e true = refl
       go true e false = taken-told d h good n e p out

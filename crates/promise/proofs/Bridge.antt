@@ -17,8 +17,8 @@ use Rattle.connection.specs.State.{liveAt}
 use Rattle.device.specs.State.{closeOf}
 use Rattle.device.specs.declared.Device.{Device}
 use Rattle.rules.specs.Rule.{Ruled, soundOf}
-use Rattle.stream.specs.Machine.{Call, deliver, ask, Whole, message, asked, Answer, more, refused, done, Held, put, only, whole, delivered, step}
-use Rattle.stream.specs.Lent.{flat, counted}
+use Rattle.stream.specs.Machine.{Call, deliver, ask, Whole, handed, asked, Answer, more, denied, gave, Held, put, only, whole, delivered, step}
+use Rattle.stream.specs.Lent.{flat, countsOf}
 use Rattle.stream.proofs.Lent.{Small, put-same, put-other, getD-counted, set-counted, undecided-flat, clear-flat, put-flat, area-flat}
 use Rattle.stream.proofs.Stream.{put-elim}
 use Rattle.endpoint.specs.State.{stateOf, recordObeys, closedState}
@@ -26,13 +26,13 @@ use Rattle.endpoint.specs.Numbers.{noConnection, noRoom, Outcome, outcome}
 use Rattle.endpoint.specs.Deliver.{leastOutput, messaged, deliveredBy, takenIn, deliverCall}
 use Rattle.endpoint.specs.declared.Record.{Record}
 use Rattle.endpoint.proofs.States.{live-low}
-use Rattle.promise.specs.Rules.{Ask, Given, given, messageBy, rule, open?, admit, shut, Fine, callOf, withTaken, toldOf}
+use Rattle.promise.specs.Rulebook.{Ask, Given, given, messageBy, rule, open?, admit, shut, Fine, callOf, withTaken, outcomeOf}
 use Rattle.promise.proofs.Lives.{GoodAt, record-obeys, only-same, live-closed, live-sound}
 
 pub small : (d : Device) (h : Held) → GoodAt d h → Small h
 small d h good n = omega (arith, deciding .short (h n) (unsettled (decide (h n)) (good .waiting n)))
 
-pub area-sound : (d : Device) (h : Held) → GoodAt d h → areaSound (counted h 8) (flat h 8) ≡ true
+pub area-sound : (d : Device) (h : Held) → GoodAt d h → areaSound (countsOf h 8) (flat h 8) ≡ true
 area-sound d h good = area-flat h (small d h good) (good .waiting)
 
 module _ (d : Device) (h : Held) (good : GoodAt d h) (n : ℕ) (live : liveAt (d .connections) n ≡ true) where
@@ -40,13 +40,13 @@ module _ (d : Device) (h : Held) (good : GoodAt d h) (n : ℕ) (live : liveAt (d
   low = live-low (d .connections) n 8 live (good .fine .eight)
 
   -- the bytes of connection n, and their count
-  held-is : getD (counted h 8) n 0 ≡ length (h n)
+  held-is : getD (countsOf h 8) n 0 ≡ length (h n)
   held-is = getD-counted h 8 n low
 
   bytes-are : undecidedOf (flat h 8) n (length (h n)) ≡ h n
   bytes-are = undecided-flat h 8 n (small d h good) low
 
-  emptied-counts : set (counted h 8) n 0 ≡ counted (put h n []) 8
+  emptied-counts : set (countsOf h 8) n 0 ≡ countsOf (put h n []) 8
   emptied-counts = set-counted h 8 n [] low
 
   emptied-area : partCleared (flat h 8) n ≡ flat (put h n []) 8
@@ -73,15 +73,15 @@ module _ (d : Device) (h : Held) (good : GoodAt d h) (n : ℕ) (live : liveAt (d
     xs = h n ++ p
 
     state : Record
-    state = stateOf d (counted h 8)
+    state = stateOf d (countsOf h 8)
 
     decided : (x : Decision) → decide (h n ++ p) ≡ x → settled x ≡ true → decide (take (taken x) (h n ++ p)) ≡ x
     decided x e s = ap (λ (y : Decision). decide (take (taken y) (h n ++ p))) (sym e) ∙ deciding .enough (h n ++ p) (ap settled e ∙ s) ∙ e
 
     by-decision : (x : Decision) → decide (h n ++ p) ≡ x
         → let s = delivered rule open? admit zero (settled x) d h n p out in
-        deliveredBy x (stateOf d (counted h 8)) (flat h 8) n (length (h n)) p (h n ++ p) out ≡ toldOf (deliver n p out) (s .0 .0) (s .0 .1) (s .1)
-    unfolding deliveredBy settled delivered toldOf whole rule messaged closedState withTaken taken messageBy
+        deliveredBy x (stateOf d (countsOf h 8)) (flat h 8) n (length (h n)) p (h n ++ p) out ≡ outcomeOf (deliver n p out) (s .0 .0) (s .0 .1) (s .1)
+    unfolding deliveredBy settled delivered outcomeOf whole rule messaged closedState withTaken taken messageBy
     by-decision Undecided e =
         let l : length (h n) + length p ≡ length (h n ++ p) = sym (length-append (h n) p) in
         let f : length (h n ++ p) ≤ partBytes = omega (arith, deciding .short (h n ++ p) e) in
@@ -91,7 +91,7 @@ module _ (d : Device) (h : Held) (good : GoodAt d h) (n : ℕ) (live : liveAt (d
     by-decision (Sound t) e =
         rw (e, decided (Sound t) e refl, emptied-counts, emptied-area, emptied-none (soundOf d n (take t (h n ++ p)) .device) (sound-kept (take t (h n ++ p))))
 
-    pub taken-told : takenIn (stateOf d (counted h 8)) (flat h 8) n (getD (counted h 8) n 0) p out
-        ≡ (let s = delivered rule open? admit zero (settled (decide (h n ++ p))) d h n p out in toldOf (deliver n p out) (s .0 .0) (s .0 .1) (s .1))
+    pub taken-told : takenIn (stateOf d (countsOf h 8)) (flat h 8) n (getD (countsOf h 8) n 0) p out
+        ≡ (let s = delivered rule open? admit zero (settled (decide (h n ++ p))) d h n p out in outcomeOf (deliver n p out) (s .0 .0) (s .0 .1) (s .1))
     unfolding takenIn
     taken-told = rw (held-is, bytes-are) (by-decision (decide (h n ++ p)) refl)

@@ -19,23 +19,23 @@ use Rattle.frame.specs.declared.Decision.the-variants.{Undecided, Faulty, Sound
 use Rattle.area.specs.Area.{partBytes, undecidedOf, partCleared, closedCleared, heldKept}
 use Rattle.connection.specs.State as connections
 use Rattle.connection.specs.State.{closed, opened, liveAt, lowestFree}
-use Rattle.connection.specs.Supervision.{closesAt, tickedOf}
+use Rattle.connection.specs.Supervision.{closesAt, connectionTicked}
 use Rattle.connection.specs.declared.Connection.{Connection}
 use Rattle.subscription.specs.State.{free}
-use Rattle.subscription.specs.Rules.{isFree, entryObeys}
+use Rattle.subscription.specs.Obeys.{isFree, entryObeys}
 use Rattle.subscription.specs.declared.Subscription.{Subscription}
 use Rattle.subscription.proofs.Keeps as entries
 use Rattle.subscription.proofs.Keeps.{entry-view, free-unused}
 use Rattle.holders.specs.Holders.{holderObeys}
 use Rattle.device.specs.State.{withConnections, openOf, sweepOf, closeOf}
-use Rattle.device.specs.Rules.{deviceObeys}
+use Rattle.device.specs.Obeys.{deviceObeys}
 use Rattle.device.specs.Time.{tickOf}
-use Rattle.device.specs.Closure.{isLockOf, isEntryOf, locksOf, entriesOf, noLocks, noEntries, Gone, Stays}
+use Rattle.device.specs.Closure.{isLockOf, isEntryOf, locksOf, subscriptionsOf, noLocks, noEntries, Gone, Stays}
 use Rattle.device.specs.declared.Device.{Device}
 use Rattle.device.proofs.Keeps.{obeys-are}
 use Rattle.device.proofs.Closures.{closure-frees}
 use Rattle.stream.specs.Machine.{Held, put, only}
-use Rattle.stream.specs.Lent.{partOf, flat, counted}
+use Rattle.stream.specs.Lent.{partHolding, flat, countsOf}
 use Rattle.stream.proofs.Lent.{Small, put-same, put-other, getD-counted, set-counted, part-flat, clear-flat}
 use Rattle.stream.proofs.Stream.{put-elim}
 use Rattle.endpoint.specs.State.{stateOf, livesIn, recordObeys, closedState}
@@ -45,10 +45,10 @@ use Rattle.endpoint.specs.Deliver.{leastOutput, heldAt, messaged, deliveredBy, 
 use Rattle.endpoint.specs.declared.Record.{Record}
 use Rattle.endpoint.proofs.States.{live-low}
 use Rattle.endpoint.proofs.Takes.{index-meets}
-use Rattle.promise.specs.Rules.{open?, bitOf}
+use Rattle.promise.specs.Rulebook.{open?, bitOf}
 use Rattle.promise.specs.Kept.{Kept}
 use Rattle.promise.specs.Technician.{stepAt, passes}
-use Rattle.promise.specs.Closure.{partIn, Left, Unmoved, Closed, New, ClosureLeavesNothing}
+use Rattle.promise.specs.Closure.{areaPart, Left, Unmoved, Closed, New, ClosureLeavesNothing}
 use Rattle.promise.proofs.Lives.{GoodAt, live-still}
 use Rattle.promise.proofs.Bridge.{small}
 use Rattle.promise.proofs.Asks.{ticked-counts, ticked-area}
@@ -62,19 +62,19 @@ differ P i a b e d = clash P (eqb (getD a i 0) (getD b i 0)) (eq-eqb (getD a i 0
 
 -- ---- bytes held, in the counts and in the area
 
-count-empty : (j : Held) (n : ℕ) → n < 8 → j n ≡ [] → getD (counted j 8) n 0 ≡ 0
+count-empty : (j : Held) (n : ℕ) → n < 8 → j n ≡ [] → getD (countsOf j 8) n 0 ≡ 0
 count-empty j n l e = getD-counted j 8 n l ∙ ap length e
 
-part-empty : (j : Held) (n : ℕ) → Small j → n < 8 → j n ≡ [] → partIn (flat j 8) n ≡ zeros partBytes
-unfolding partIn partOf
-part-empty j n z l e = part-flat j 8 n z l ∙ ap partOf e
+part-empty : (j : Held) (n : ℕ) → Small j → n < 8 → j n ≡ [] → areaPart (flat j 8) n ≡ zeros partBytes
+unfolding areaPart partHolding
+part-empty j n z l e = part-flat j 8 n z l ∙ ap partHolding e
 
-count-same : (h j : Held) (k : ℕ) → k < 8 → j k ≡ h k → getD (counted j 8) k 0 ≡ getD (counted h 8) k 0
+count-same : (h j : Held) (k : ℕ) → k < 8 → j k ≡ h k → getD (countsOf j 8) k 0 ≡ getD (countsOf h 8) k 0
 count-same h j k l e = getD-counted j 8 k l ∙ ap length e ∙ sym (getD-counted h 8 k l)
 
-part-same : (h j : Held) (k : ℕ) → Small h → Small j → k < 8 → j k ≡ h k → partIn (flat j 8) k ≡ partIn (flat h 8) k
-unfolding partIn
-part-same h j k s z l e = part-flat j 8 k z l ∙ ap partOf e ∙ sym (part-flat h 8 k s l)
+part-same : (h j : Held) (k : ℕ) → Small h → Small j → k < 8 → j k ≡ h k → areaPart (flat j 8) k ≡ areaPart (flat h 8) k
+unfolding areaPart
+part-same h j k s z l e = part-flat j 8 k z l ∙ ap partHolding e ∙ sym (part-flat h 8 k s l)
 
 small-put : (h : Held) (n : ℕ) → Small h → Small (put h n [])
 small-put h n s m = put-elim h n [] m (λ x. length x ≤ partBytes) (λ q. omega arith) (s m)
@@ -88,18 +88,18 @@ small-only t h s m = go (t m)
     go false = omega arith
 
 -- a connection that a tick closes is all zero
-ticked-blank : (step : ℕ) (c : Connection) → closesAt step c ≡ true → tickedOf step c ≡ closed
-unfolding tickedOf
+ticked-blank : (step : ℕ) (c : Connection) → closesAt step c ≡ true → connectionTicked step c ≡ closed
+unfolding connectionTicked
 ticked-blank step c k = go (eqb (c .beat) 0) refl
   where
-    go : (b : Bool) → eqb (c .beat) 0 ≡ b → tickedOf step c ≡ closed
+    go : (b : Bool) → eqb (c .beat) 0 ≡ b → connectionTicked step c ≡ closed
     go true b = clash _ (closesAt step c) k (never-idle step c (eqb-true (c .beat) 0 b))
     go false b = rw (b, k)
 
 -- ---- a record and an area that hold the bytes j, after one that rows 1 and 2 do not refuse
 record Into (j : Held) (held area : List ℕ) : Type 0 where
   few : Small j
-  counts : held ≡ counted j 8
+  counts : held ≡ countsOf j 8
   bytes : area ≡ flat j 8
 
 module _ (r : Record) (area : List ℕ) (w : Kept r area) where
@@ -119,7 +119,7 @@ module _ (r : Record) (area : List ℕ) (w : Kept r area) where
           gone = g;
           blank = b;
           count = ap (λ (x : List ℕ). getD x n 0) (i .counts) ∙ count-empty j n l q;
-          bytes = ap (λ (x : List ℕ). partIn x n) (i .bytes) ∙ part-empty j n (i .few) l q;
+          bytes = ap (λ (x : List ℕ). areaPart x n) (i .bytes) ∙ part-empty j n (i .few) l q;
         }
 
     unmoved-in : (k : ℕ) → k < 8 → Stays k (r .device) e → j k ≡ heldIn r area k → Unmoved k r area (stateOf e held) next
@@ -127,7 +127,7 @@ module _ (r : Record) (area : List ℕ) (w : Kept r area) where
         record {
           stays = g;
           count = ap (λ (x : List ℕ). getD x k 0) (i .counts) ∙ count-same (heldIn r area) j k l q ∙ ap (λ (x : List ℕ). getD x k 0) (kept-counts r area w);
-          bytes = ap (λ (x : List ℕ). partIn x k) (i .bytes) ∙ part-same (heldIn r area) j k few (i .few) l q ∙ ap (λ (x : List ℕ). partIn x k) (kept-area r area w);
+          bytes = ap (λ (x : List ℕ). areaPart x k) (i .bytes) ∙ part-same (heldIn r area) j k few (i .few) l q ∙ ap (λ (x : List ℕ). areaPart x k) (kept-area r area w);
         }
 
   -- ---- one connection closed
@@ -301,7 +301,7 @@ module _ (r : Record) (area : List ℕ) (w : Kept r area) (n : ℕ) (p : openCal
       (rw (opens .number) at (index-meets connections.isFree (r .device .connections) closed (rw (opens .number) under)))
 
   new : New n r (openCall r .state) area
-  unfolding locksOf entriesOf noLocks noEntries recordObeys
+  unfolding locksOf subscriptionsOf noLocks noEntries recordObeys
   new =
       let d = r .device in
       let l : n < 8 = omega (arith, under, w .eight) in
@@ -314,11 +314,11 @@ module _ (r : Record) (area : List ℕ) (w : Kept r area) (n : ℕ) (p : openCal
         locks = map-all (holderObeys (d .connections)) _ _ (lock-none (d .connections) n shut) (d .holders) (o .holders);
         entries = map-all (entryObeys (d .connections)) _ _ (entry-none (d .connections) n shut) (d .subscriptions) (o .entries);
         count = ap (λ (x : List ℕ). getD x n 0) (sym (kept-counts r area w)) ∙ count-empty (heldIn r area) n l q;
-        bytes = ap (λ (x : List ℕ). partIn x n) (sym (kept-area r area w)) ∙ part-empty (heldIn r area) n (few r area w) l q;
+        bytes = ap (λ (x : List ℕ). areaPart x n) (sym (kept-area r area w)) ∙ part-empty (heldIn r area) n (few r area w) l q;
       })
 
   open-others : (k : ℕ) → liveAt (r .device .connections) k ≡ true → Unmoved k r area (openCall r .state) area
-  unfolding locksOf entriesOf
+  unfolding locksOf subscriptionsOf
   open-others k v =
       rw (opens .state)
       (record { stays = record { live = live-still (r .device) n k v; locks = refl; entries = refl }; count = refl; bytes = refl })

@@ -17,16 +17,16 @@ use Rattle.fields.specs.Fields.{commandOf, heartbeatOf}
 use Rattle.layout.specs.Message as layouts
 use Rattle.mechanism.specs.Arguments.{isUntaken, armedBy}
 use Rattle.mechanism.specs.declared.Mechanism.{Mechanism}
-use Rattle.connection.specs.State.{opened, liveAt, isFree, lowestFree}
-use Rattle.connection.specs.Supervision.{fitsStep, closesAt, tickedOf, beatingOf}
+use Rattle.connection.specs.State.{opened, liveAt, isNotOpen, lowestFree}
+use Rattle.connection.specs.Supervision.{fitsStep, closesAt, connectionTicked, beatingOf}
 use Rattle.subscription.specs.State.{free, twinAt, lowestUnused, markedOf}
 use Rattle.objects.specs.Methods.{lockMethod, unlockMethod, setMethod, addMethod, removeMethod, resetKeyMethod, placeOf, hasMethod}
-use Rattle.objects.specs.Tests.{isMalformed, entryOf}
+use Rattle.objects.specs.Tests.{isMalformed, subscriptionFrom}
 use Rattle.objects.specs.Answers.{failedOf}
 use Rattle.objects.specs.declared.Answer.{Answer}
 use Rattle.holders.specs.Holders.{ownerOf}
 use Rattle.device.specs.State.{withConnections, withSubscriptions, withHolders, withMechanism, openOf, sweepOf, closeOf, atConnection, heardAt, sentAt, toldAt, beatingAt}
-use Rattle.device.specs.Time.{stepOf, advanced, tickBy, tickOf}
+use Rattle.device.specs.Time.{stepOf, advanced, tickStep, tickOf}
 use Rattle.device.specs.Run.{holderAt, muteAt, isHeldByOther, isSubscribed, isOutOfTurn, isFull, statusOf, mutedOf, doneOf, answerOf, ranBy, runOf}
 use Rattle.device.specs.declared.Device.{Device}
 use Rattle.device.specs.declared.Opened.{Opened}
@@ -38,7 +38,7 @@ use Rattle.device.proofs.Commands.{arm-status}
 use Rattle.device.proofs.Shapes.{arm-at, status-allowed}
 use Rattle.replies.specs.Bytes.{responseBytes, keepAliveBytes}
 use Rattle.serve.specs.Serve.{ranWith, ranFirst, lastOf, responseTo, responsesOf}
-use Rattle.rules.specs.Rule.{Ruled, ruled, commandsOf, beatOf, soundOf}
+use Rattle.rules.specs.Rule.{Ruled, ruled, commandsOf, keptAlive, soundOf}
 use Rattle.promise.specs.Key.{isArming, keyedBy, keyedWith, keyedOver, keyedIn}
 
 -- ---- a command that arms
@@ -100,7 +100,7 @@ module _ (d : Device) (k : Mechanism) where
 
   pub open-frame : openOf (withMechanism d k) ≡ record { device = withMechanism (openOf d .device) k; answer = openOf d .answer }
   unfolding openOf
-  open-frame = go (any isFree (d .connections))
+  open-frame = go (any isNotOpen (d .connections))
     where
       number : Device → Opened
       number e = record { device = withConnections e (set (d .connections) (lowestFree (d .connections)) opened); answer = opens.Number (lowestFree (d .connections)) }
@@ -114,7 +114,7 @@ module _ (d : Device) (k : Mechanism) where
       go false = refl
 
   pub tick-frame : (reading : ℕ) → tickOf (withMechanism d k) reading ≡ record { device = withMechanism (tickOf d reading .device) k; answer = tickOf d reading .answer }
-  unfolding tickBy sweepOf
+  unfolding tickStep sweepOf
   tick-frame reading = go (leb (2 ^ 31) s) (all (fitsStep s) (d .connections))
     where
       s : ℕ
@@ -127,7 +127,7 @@ module _ (d : Device) (k : Mechanism) where
       over e = record { device = e; answer = ticks.Overrun }
 
       passed : Device → Ticked
-      passed e = record { device = sweepOf (advanced e reading (map (tickedOf s) (d .connections))); answer = ticks.Closed (mask (closesAt s) (d .connections)) }
+      passed e = record { device = sweepOf (advanced e reading (map (connectionTicked s) (d .connections))); answer = ticks.Closed (mask (closesAt s) (d .connections)) }
 
       ways : Bool → Bool → Device → Ticked
       ways a b e = cond a (back e) (cond b (passed e) (over e))
@@ -155,8 +155,8 @@ done-frame d k n t m part = go (eqb m resetKeyMethod) refl
         cond a (withHolders x (set (d .holders) (placeOf t) (ownerOf n)))
         (cond b (withHolders x (set (d .holders) (placeOf t) 0))
         (cond c (cond f x (record { reading = d .reading; connections = d .connections; subscriptions = map (markedOf t) (d .subscriptions); mutes = set (d .mutes) (placeOf t) (getD part 0 0); holders = d .holders; mechanism = x .mechanism }))
-        (cond g (withSubscriptions x (set (d .subscriptions) (lowestUnused (d .subscriptions)) (entryOf n part)))
-        (cond h (withSubscriptions x (set (d .subscriptions) (twinAt (entryOf n part) (d .subscriptions)) free))
+        (cond g (withSubscriptions x (set (d .subscriptions) (lowestUnused (d .subscriptions)) (subscriptionFrom n part)))
+        (cond h (withSubscriptions x (set (d .subscriptions) (twinAt (subscriptionFrom n part) (d .subscriptions)) free))
         (cond i (withMechanism x (armedBy part)) x)))))
 
     others : (a b c f g h : Bool) → chain a b c f g h false e ≡ withMechanism (chain a b c f g h false d) k
@@ -235,7 +235,7 @@ module _ (n kind : ℕ) where
 
 -- ---- a sound message
 pub sound-frame : (d : Device) (k : Mechanism) (n : ℕ) (m : List ℕ) → soundOf (withMechanism d k) n m ≡ ruled (withMechanism (soundOf d n m .device) (keyedIn k m)) (soundOf d n m .reply)
-unfolding soundOf keyedIn beatOf
+unfolding soundOf keyedIn keptAlive
 sound-frame d k n m =
     rw (heard-frame d k n, commands-frame n (pduType m) (heardAt d n) k (messageCount m) (drop headerEnd m), beating-frame d k n (heartbeatOf (drop headerEnd m)))
     (go (eqb (pduType m) keepAlive) refl (ltb (pduType m) notification) refl)

@@ -23,16 +23,16 @@ use Rattle.fields.specs.Fields.{commandOf}
 use Rattle.area.specs.Area.{areaBytes}
 use Rattle.mechanism.specs.Arguments.{armedBy}
 use Rattle.mechanism.specs.Datagram as datagrams
-use Rattle.connection.specs.State.{connectionCount, liveAt, isFree, lowestDue}
+use Rattle.connection.specs.State.{connectionCount, liveAt, isNotOpen, lowestDue}
 use Rattle.connection.specs.Supervision.{fitsStep}
 use Rattle.connection.specs.declared.Connection.{Connection}
 use Rattle.subscription.specs.State.{entryCount, free, isMute, twinAt, lowestUnused, lowestWaiting}
 use Rattle.objects.specs.Methods.{lockMethod, unlockMethod, setMethod, addMethod, removeMethod, resetKeyMethod, placeOf, isObject, isLocking}
-use Rattle.objects.specs.Tests.{isForbidden, entryOf}
-use Rattle.objects.specs.Answers.{failedOf, toldOf}
+use Rattle.objects.specs.Tests.{isForbidden, subscriptionFrom}
+use Rattle.objects.specs.Answers.{failedOf, answerWith}
 use Rattle.holders.specs.Holders.{ownerOf, isOther, holderObeys, sweptHolder}
 use Rattle.device.specs.State.{muteCount, freshOf, withSubscriptions, withHolders, withMechanism, openOf, sweepOf, closeOf, heardAt, sentAt, toldAt, beatingAt}
-use Rattle.device.specs.Time.{stepOf, tickBy, tickOf}
+use Rattle.device.specs.Time.{stepOf, tickStep, tickOf}
 use Rattle.device.specs.Run.{muteAt, statusOf, mutedOf, doneOf, answerOf, unchanged, ranBy}
 use Rattle.device.specs.Run as commands
 use Rattle.device.specs.declared.Device.{Device}
@@ -47,19 +47,19 @@ use Rattle.device.proofs.Closures.{free-locks}
 use Rattle.device.proofs.Shapes.{target-is, status-allowed}
 use Rattle.device.proofs.Commands.{lock-other, lock-done}
 use Rattle.serve.specs.Serve.{ranWith, ranFirst, lastOf}
-use Rattle.rules.specs.Rule.{Ruled, commandsOf, beatOf, soundOf}
-use Rattle.stream.specs.Machine.{Call, ask, message, asked, none-held, glue, rules}
+use Rattle.rules.specs.Rule.{Ruled, commandsOf, keptAlive, soundOf}
+use Rattle.stream.specs.Machine.{Call, ask, handed, asked, none-held, glue, rules}
 use Rattle.stream.specs.Promise.{AllBytes}
-use Rattle.stream.specs.Lent.{flat, counted}
+use Rattle.stream.specs.Lent.{flat, countsOf}
 use Rattle.endpoint.specs.State.{stateOf, freshState}
 use Rattle.endpoint.specs.Numbers.{Outcome}
 use Rattle.endpoint.specs.Deliver.{leastOutput}
 use Rattle.endpoint.specs.Take.{notifiedOf, sentOut, notifying, reminding, takenBy}
 use Rattle.reset.specs.Datagram.{datagramCall}
 use Rattle.endpoint.specs.declared.Record.{Record}
-use Rattle.promise.specs.Rules as ruling
-use Rattle.promise.specs.Rules.{Ask, opening, closing, ticking, taking, datagram, Asked, Given, messageBy, openBy, closeBy, takeBy, resetBy, rule, shut}
-use Rattle.promise.specs.Stream.{runOf, machine}
+use Rattle.promise.specs.Rulebook as ruling
+use Rattle.promise.specs.Rulebook.{Ask, opening, closing, ticking, taking, datagram, Asked, Given, messageBy, openBy, closeBy, takeBy, resetBy, rule, shut}
+use Rattle.promise.specs.Stream.{runCalls, machine}
 use Rattle.promise.specs.Technician.{lockStatus}
 use Rattle.promise.specs.Reset.{asksWith, asksOver, asksIn, asksFor, nobodyAsks, aReset, RackFreeAgain}
 use Rattle.promise.proofs.Lives.{getD-alike}
@@ -105,8 +105,8 @@ module _ (d : Device) (at : ℕ) (e : getD (d .holders) at 0 ≡ 0) where
 
       others : getD (cond (eqb m unlockMethod) (withHolders d (set (d .holders) (placeOf t) 0))
           (cond (eqb m setMethod) (mutedOf d t (getD part 0 0))
-          (cond (eqb m addMethod) (withSubscriptions d (set (d .subscriptions) (lowestUnused (d .subscriptions)) (entryOf n part)))
-          (cond (eqb m removeMethod) (withSubscriptions d (set (d .subscriptions) (twinAt (entryOf n part) (d .subscriptions)) free))
+          (cond (eqb m addMethod) (withSubscriptions d (set (d .subscriptions) (lowestUnused (d .subscriptions)) (subscriptionFrom n part)))
+          (cond (eqb m removeMethod) (withSubscriptions d (set (d .subscriptions) (twinAt (subscriptionFrom n part) (d .subscriptions)) free))
           (cond (eqb m resetKeyMethod) (withMechanism d (armedBy part))
           d)))) .holders) at 0 ≡ 0
       others =
@@ -124,8 +124,8 @@ module _ (d : Device) (at : ℕ) (e : getD (d .holders) at 0 ≡ 0) where
           → getD (cond b (withHolders d (set (d .holders) (placeOf t) (ownerOf n)))
           (cond (eqb m unlockMethod) (withHolders d (set (d .holders) (placeOf t) 0))
           (cond (eqb m setMethod) (mutedOf d t (getD part 0 0))
-          (cond (eqb m addMethod) (withSubscriptions d (set (d .subscriptions) (lowestUnused (d .subscriptions)) (entryOf n part)))
-          (cond (eqb m removeMethod) (withSubscriptions d (set (d .subscriptions) (twinAt (entryOf n part) (d .subscriptions)) free))
+          (cond (eqb m addMethod) (withSubscriptions d (set (d .subscriptions) (lowestUnused (d .subscriptions)) (subscriptionFrom n part)))
+          (cond (eqb m removeMethod) (withSubscriptions d (set (d .subscriptions) (twinAt (subscriptionFrom n part) (d .subscriptions)) free))
           (cond (eqb m resetKeyMethod) (withMechanism d (armedBy part))
           d))))) .holders) at 0 ≡ 0
       go true q = getD-set-other (d .holders) (placeOf t) at (ownerOf n) 0 (elsewhere q) ∙ e
@@ -150,7 +150,7 @@ last-free (suc j) d at n kind t e a =
 
 sound-free : (d : Device) (at n : ℕ) (m : List ℕ) → getD (d .holders) at 0 ≡ 0 → (ltb (pduType m) notification && asksOver (messageCount m) at (pduType m) (drop headerEnd m)) ≡ false
     → getD (soundOf d n m .device .holders) at 0 ≡ 0
-unfolding soundOf commandsOf beatOf beatingAt heardAt sentAt
+unfolding soundOf commandsOf keptAlive beatingAt heardAt sentAt
 sound-free d at n m e a =
     either P (eqb (pduType m) 4) _ _ (either (λ (x : Device). getD (x .holders) at 0 ≡ 0) (liveAt (d .connections) n) _ _ e e) (go (ltb (pduType m) notification) a)
   where
@@ -170,8 +170,8 @@ unfolding freshOf
 fresh-free reading at = getD-alike 0 muteCount at
 
 whole-free : (d : Device) (at : ℕ) (w : Asked) → getD (d .holders) at 0 ≡ 0 → asksFor at w ≡ false → getD (rule d w .0 .holders) at 0 ≡ 0
-unfolding rule asksFor asksIn messageBy openBy closeBy ruling.tickBy takeBy resetBy takenBy notifying reminding sentOut notifiedOf sentAt toldAt openOf closeOf sweepOf tickBy
-whole-free d at (message n m out) e a = go (decide m) a
+unfolding rule asksFor asksIn messageBy openBy closeBy ruling.tickBy takeBy resetBy takenBy notifying reminding sentOut notifiedOf sentAt toldAt openOf closeOf sweepOf tickStep
+whole-free d at (handed n m out) e a = go (decide m) a
   where
     go : (x : Decision) → asksIn x at m ≡ false → getD (messageBy x d n m out .0 .holders) at 0 ≡ 0
     go Undecided q = e
@@ -183,7 +183,7 @@ whole-free d at (asked opening) e a = go (openOf d .answer)
     P o = getD (o .device .holders) at 0 ≡ 0
 
     go : (x : Opening) → getD (openBy x d (openOf d .device) .0 .holders) at 0 ≡ 0
-    go (opens.Number n) = either P (any isFree (d .connections)) _ _ e e
+    go (opens.Number n) = either P (any isNotOpen (d .connections)) _ _ e e
     go opens.Full = e
 whole-free d at (asked (closing n)) e a = go (liveAt (d .connections) n)
   where
@@ -222,11 +222,11 @@ rules-free d at (w ∷ ws) e a =
     rules-free (rule d w .0) at ws (whole-free d at w e (not-true (asksFor at w) (and-left (not (asksFor at w)) _ a))) (and-right (not (asksFor at w)) _ a)
 
 calls-free : (reading : ℕ) (cs : List (Call Ask (List ℕ))) → AllBytes cs → (at : ℕ) → nobodyAsks at (glue shut none-held (machine (freshOf reading) none-held cs .1) .0) ≡ true
-    → getD (runOf (freshState reading) (zeros areaBytes) cs .0 .0 .device .holders) at 0 ≡ 0
+    → getD (runCalls (freshState reading) (zeros areaBytes) cs .0 .0 .device .holders) at 0 ≡ 0
 calls-free reading cs b at a =
     let d = freshOf reading in
     let good = stream-theorem .fresh reading in
-    let same : runOf (freshState reading) (zeros areaBytes) cs ≡ runOf (stateOf d (counted none-held 8)) (flat none-held 8) cs =
+    let same : runCalls (freshState reading) (zeros areaBytes) cs ≡ runCalls (stateOf d (countsOf none-held 8)) (flat none-held 8) cs =
     rw (stream-theorem .freshState reading, stream-theorem .freshArea) refl in
     ap (λ (x : (Record × List ℕ) × List Outcome). getD (x .0 .0 .device .holders) at 0) (same ∙ stream-theorem .real d none-held cs good b)
     ∙ sym (ap (λ (x : Device × List Given). getD (x .0 .holders) at 0) (stream-theorem .whole d none-held cs good b .same))
@@ -248,12 +248,12 @@ lock-holder d k at l h e s = go (isOther (getD (d .holders) at 0) k) refl
         let w : lockStatus d k at ≡ 3 = ap (λ (x : Ran). x .answer .status) (sym (lock-other d k at e (isOther (getD (d .holders) at 0) k) refl q (failedOf 3) refl)) in
         absurd (omega (arith, s, w))
     go false q =
-        ap (λ (x : Ran). getD (x .device .holders) at 0) (sym (lock-done d k at e (isOther (getD (d .holders) at 0) k) refl q (k + 1) (rw (lt-ltb k 8 l)) (toldOf []) refl))
+        ap (λ (x : Ran). getD (x .device .holders) at 0) (sym (lock-done d k at e (isOther (getD (d .holders) at 0) k) refl q (k + 1) (rw (lt-ltb k 8 l)) (answerWith []) refl))
         ∙ getD-set-same (d .holders) at (k + 1) 0 h
 
 first-asks : (r : Record) (area g : List ℕ) (cs : List (Call Ask (List ℕ))) → datagramCall r area g .answer ≡ aReset → AllBytes cs → (k at : ℕ) → at < 8
     → nobodyAsks at (glue shut none-held (machine (freshOf (r .device .reading)) none-held cs .1) .0) ≡ true
-    → lockStatus (runOf r area (ask (datagram g) ∷ cs) .0 .0 .device) k at ≡ 0
+    → lockStatus (runCalls r area (ask (datagram g) ∷ cs) .0 .0 .device) k at ≡ 0
 first-asks r area g cs e b k at h a =
     free-locks _ k at h
     (ap (λ (x : (Record × List ℕ) × List Outcome). getD (x .0 .0 .device .holders) at 0) (anew r area g cs e) ∙ calls-free (r .device .reading) cs b at a)

@@ -19,14 +19,14 @@ use Rattle.fields.specs.declared.CommandFields.{CommandFields}
 use Rattle.area.specs.Area.{areaSound, undecidedOf}
 use Rattle.mechanism.specs.State.{disarmed, withKey}
 use Rattle.mechanism.specs.Arguments.{armedBy}
-use Rattle.mechanism.specs.Rules.{mechanismObeys}
+use Rattle.mechanism.specs.Obeys.{mechanismObeys}
 use Rattle.mechanism.specs.Datagram.{resets}
 use Rattle.mechanism.specs.declared.Mechanism.{Mechanism}
 use Rattle.mechanism.proofs.Kept.{mechanism-kept}
 use Rattle.connection.specs.State.{connectionCount, liveAt, lowestDue}
 use Rattle.subscription.specs.State.{entryCount, lowestWaiting}
 use Rattle.device.specs.State.{freshOf, withMechanism, openOf, closeOf, sweepOf, sentAt, toldAt}
-use Rattle.device.specs.Rules.{deviceObeys}
+use Rattle.device.specs.Obeys.{deviceObeys}
 use Rattle.device.specs.Time.{tickOf}
 use Rattle.device.specs.Run.{muteAt}
 use Rattle.device.specs.Run as commands
@@ -39,9 +39,9 @@ use Rattle.device.specs.declared.Ticking.{Ticking}
 use Rattle.device.specs.declared.Ticking.the-variants as ticks
 use Rattle.device.specs.declared.Ran.{Ran}
 use Rattle.rules.specs.Rule.{Ruled, soundOf}
-use Rattle.stream.specs.Machine.{Call, deliver, ask, message, asked, Held, glue, rules}
+use Rattle.stream.specs.Machine.{Call, deliver, ask, handed, asked, Held, glue, rules}
 use Rattle.stream.specs.Promise.{AllBytes}
-use Rattle.stream.specs.Lent.{flat, counted}
+use Rattle.stream.specs.Lent.{flat, countsOf}
 use Rattle.endpoint.specs.State.{stateOf, livesIn, recordObeys, closedState}
 use Rattle.endpoint.specs.Numbers.{Outcome, outcome}
 use Rattle.endpoint.specs.Calls.{openedBy, openCall, closeCall, tickedBy, tickCall}
@@ -49,9 +49,9 @@ use Rattle.endpoint.specs.Deliver.{leastOutput, messaged, deliveredBy, takenIn,
 use Rattle.endpoint.specs.Take.{notifiedOf, sentOut, notifying, reminding, takenBy, takeCall}
 use Rattle.reset.specs.Datagram.{datagramCall}
 use Rattle.endpoint.specs.declared.Record.{Record}
-use Rattle.promise.specs.Rules as ruling
-use Rattle.promise.specs.Rules.{Ask, opening, closing, ticking, taking, datagram, Asked, Given, messageBy, openBy, closeBy, takeBy, resetBy, rule, shut, callOf}
-use Rattle.promise.specs.Stream.{runOf, machine, GoodState}
+use Rattle.promise.specs.Rulebook as ruling
+use Rattle.promise.specs.Rulebook.{Ask, opening, closing, ticking, taking, datagram, Asked, Given, messageBy, openBy, closeBy, takeBy, resetBy, rule, shut, callOf}
+use Rattle.promise.specs.Stream.{runCalls, machine, GoodState}
 use Rattle.promise.specs.Key.{isArming, keyedBy, keyedWith, keyedOver, keyedIn, keyedMessage, latest, latestOver, LatestKeyCounts, AlikeButKey, Seen, seen, isNoReset, noReset, KeyStaysInside}
 use Rattle.promise.proofs.Frames.{arming, close-frame, open-frame, tick-frame, run-frame, sound-frame}
 use Rattle.promise.proofs.Keeps.{stream-theorem}
@@ -66,7 +66,7 @@ sound-key d n m = ap (λ (r : Ruled). r .device .mechanism) (sound-frame d (d .m
 
 whole : (d : Device) (w : Asked) → rule d w .0 .mechanism ≡ latest (d .mechanism) w
 unfolding rule latest messageBy keyedMessage openBy closeBy ruling.tickBy takeBy resetBy takenBy notifying reminding sentOut notifiedOf sentAt toldAt freshOf closeOf sweepOf
-whole d (message n m out) = go (decide m)
+whole d (handed n m out) = go (decide m)
   where
     go : (x : Decision) → messageBy x d n m out .0 .mechanism ≡ keyedMessage x (d .mechanism) m
     go Undecided = refl
@@ -112,7 +112,7 @@ ruled-over d [] = refl
 ruled-over d (w ∷ ws) = ruled-over (rule d w .0) ws ∙ ap (λ (k : Mechanism). latestOver k ws) (whole d w)
 
 calls-key : (d : Device) (h : Held) (cs : List (Call Ask (List ℕ))) → GoodState d h → AllBytes cs
-    → runOf (stateOf d (counted h 8)) (flat h 8) cs .0 .0 .device .mechanism ≡ latestOver (d .mechanism) (glue shut h (machine d h cs .1) .0)
+    → runCalls (stateOf d (countsOf h 8)) (flat h 8) cs .0 .0 .device .mechanism ≡ latestOver (d .mechanism) (glue shut h (machine d h cs .1) .0)
 calls-key d h cs good b =
     ap (λ (x : (Record × List ℕ) × List Outcome). x .0 .0 .device .mechanism) (stream-theorem .real d h cs good b)
     ∙ sym (ap (λ (x : Device × List Given). x .0 .mechanism) (stream-theorem .whole d h cs good b .same))
@@ -295,15 +295,15 @@ call-inside r s area c w e =
     rw q at (call-follows (r .device) (r .held) (r .device .mechanism) (s .device .mechanism) (alike-parts r s w) area c f)
 
 inside : (cs : List (Call Ask (List ℕ))) (r s : Record) (x y : List ℕ) → x ≡ y → AlikeButKey r s → noReset r x s y cs ≡ true
-    → (map seen (runOf r x cs .1) ≡ map seen (runOf s y cs .1)) × AlikeButKey (runOf r x cs .0 .0) (runOf s y cs .0 .0)
-unfolding runOf noReset
+    → (map seen (runCalls r x cs .1) ≡ map seen (runCalls s y cs .1)) × AlikeButKey (runCalls r x cs .0 .0) (runCalls s y cs .0 .0)
+unfolding runCalls noReset
 inside [] r s x y q w e = (refl, w)
 inside (c ∷ cs) r s x y q w e =
     let f = subst (λ (u : List ℕ). Follows (callOf r x c) (callOf s u c)) q (call-inside r s x c w (and-left (isNoReset r s c) _ e)) in
     let o = callOf r x c in
     let p = callOf s y c in
     let t = inside cs (o .state) (p .state) (o .area) (p .area) (ap (λ (v : Seen). v .area) (f .shown)) (f .kept) (and-right (isNoReset r s c) _ e) in
-    (ap (λ (v : Seen). v ∷ map seen (runOf (o .state) (o .area) cs .1)) (f .shown) ∙ ap (λ (l : List Seen). seen p ∷ l) (t .0), t .1)
+    (ap (λ (v : Seen). v ∷ map seen (runCalls (o .state) (o .area) cs .1)) (f .shown) ∙ ap (λ (l : List Seen). seen p ∷ l) (t .0), t .1)
 
 pub key-stays-inside : KeyStaysInside
 key-stays-inside =

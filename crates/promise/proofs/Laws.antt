@@ -16,15 +16,15 @@ use Rattle.frame.specs.declared.Decision.the-variants.{Undecided, Faulty, Sound
 use Rattle.frame.specs.Sound.{SoundAt}
 use Rattle.frame.proofs.Sounds.{sound-at}
 use Rattle.mechanism.specs.Datagram.{resets}
-use Rattle.connection.specs.State.{connectionCount, closed, opened, liveAt, isFree, lowestFree, lowestDue}
-use Rattle.connection.specs.Supervision.{fitsStep, closesAt, tickedOf}
+use Rattle.connection.specs.State.{connectionCount, closed, opened, liveAt, isNotOpen, lowestFree, lowestDue}
+use Rattle.connection.specs.Supervision.{fitsStep, closesAt, connectionTicked}
 use Rattle.connection.specs.Kept.{SupervisionKept}
 use Rattle.connection.specs.declared.Connection.{Connection}
 use Rattle.connection.proofs.Keeps.{supervision-kept}
 use Rattle.subscription.specs.State.{entryCount, lowestWaiting}
 use Rattle.device.specs.State.{freshOf, withConnections, openOf, closeOf, sweepOf, sentAt, toldAt}
-use Rattle.device.specs.Rules.{deviceObeys}
-use Rattle.device.specs.Time.{stepOf, advanced, tickBy, tickOf}
+use Rattle.device.specs.Obeys.{deviceObeys}
+use Rattle.device.specs.Time.{stepOf, advanced, tickStep, tickOf}
 use Rattle.device.specs.declared.Device.{Device}
 use Rattle.device.specs.declared.Opened.{Opened}
 use Rattle.device.specs.declared.Opening.{Opening}
@@ -35,15 +35,15 @@ use Rattle.device.specs.declared.Ticking.the-variants as ticks
 use Rattle.device.proofs.Keeps.{rules-kept}
 use Rattle.rules.specs.Rule.{Ruled, soundOf}
 use Rattle.rules.proofs.Keeps.{sound-kept}
-use Rattle.stream.specs.Machine.{Whole, message, asked}
+use Rattle.stream.specs.Machine.{Whole, handed, asked}
 use Rattle.stream.specs.Promise.{Decides, Apt, Laws}
 use Rattle.endpoint.specs.State.{stateOf, livesIn}
 use Rattle.endpoint.specs.Numbers.{Outcome, outcome}
 use Rattle.endpoint.specs.Deliver.{leastOutput}
-use Rattle.endpoint.specs.Take.{entryAt, notifiedOf, sentOut, notifying, reminding, takenBy}
+use Rattle.endpoint.specs.Take.{subscriptionAt, notifiedOf, sentOut, notifying, reminding, takenBy}
 use Rattle.endpoint.proofs.States.{live-low}
-use Rattle.promise.specs.Rules as rules
-use Rattle.promise.specs.Rules.{Ask, opening, closing, ticking, taking, datagram, Asked, Given, given, messageBy, openBy, closeBy, takeBy, resetBy, rule, open?, admit, bitOf, shut, Fine}
+use Rattle.promise.specs.Rulebook as rules
+use Rattle.promise.specs.Rulebook.{Ask, opening, closing, ticking, taking, datagram, Asked, Given, given, messageBy, openBy, closeBy, takeBy, resetBy, rule, open?, admit, bitOf, shut, Fine}
 use Rattle.promise.proofs.Lives.{live-closed, live-gone, live-alike, live-sound, lives-sent, lives-told, open-still, fresh-shut}
 
 admit-live : (d : Device) (n : ℕ) (out : List ℕ) → admit d n out ≡ 0 → liveAt (d .connections) n ≡ true
@@ -58,7 +58,7 @@ admit-live d n out e = go (liveAt (d .connections) n) (ltb (length out) leastOut
 
 length-open : (d : Device) → length (openOf d .device .connections) ≡ length (d .connections)
 unfolding openOf
-length-open d = go (any isFree (d .connections))
+length-open d = go (any isNotOpen (d .connections))
   where
     go : (b : Bool)
         → length (cond {A = Opened} b (record { device = withConnections d (set (d .connections) (lowestFree (d .connections)) opened); answer = opens.Number (lowestFree (d .connections)) })
@@ -71,15 +71,15 @@ unfolding closeOf sweepOf
 length-close d n = length-set (d .connections) n closed
 
 length-tick : (d : Device) (reading : ℕ) → length (tickOf d reading .device .connections) ≡ length (d .connections)
-unfolding tickBy sweepOf
+unfolding tickStep sweepOf
 length-tick d reading = go (leb (2 ^ 31) (stepOf reading (d .reading))) (all (fitsStep (stepOf reading (d .reading))) (d .connections))
   where
     go : (a b : Bool)
         → length (cond {A = Ticked} a (record { device = d; answer = ticks.ClockBack })
-        (cond b (record { device = sweepOf (advanced d reading (map (tickedOf (stepOf reading (d .reading))) (d .connections))); answer = ticks.Closed (mask (closesAt (stepOf reading (d .reading))) (d .connections)) })
+        (cond b (record { device = sweepOf (advanced d reading (map (connectionTicked (stepOf reading (d .reading))) (d .connections))); answer = ticks.Closed (mask (closesAt (stepOf reading (d .reading))) (d .connections)) })
         (record { device = d; answer = ticks.Overrun })) .device .connections) ≡ length (d .connections)
     go true b = refl
-    go false true = length-map (d .connections) (tickedOf (stepOf reading (d .reading)))
+    go false true = length-map (d .connections) (connectionTicked (stepOf reading (d .reading)))
     go false false = refl
 
 fine-closed : (d : Device) (n : ℕ) → Fine d → Fine (closeOf d n)
@@ -120,13 +120,13 @@ keeps-take d out f false = way (ltb (lowestWaiting (d .subscriptions)) entryCoun
     way : (b c : Bool)
         → Fine (cond {A = Outcome} b (notifying (stateOf d []) out (lowestWaiting (d .subscriptions)))
         (cond c (reminding (stateOf d []) out (lowestDue (d .connections))) (outcome (0 ∷ 0 ∷ []) (stateOf d []) [] out)) .state .device)
-    way true c = fine-sent (toldAt d (lowestWaiting (d .subscriptions))) (entryAt d (lowestWaiting (d .subscriptions)) .connection) (fine-told d (lowestWaiting (d .subscriptions)) f)
+    way true c = fine-sent (toldAt d (lowestWaiting (d .subscriptions))) (subscriptionAt d (lowestWaiting (d .subscriptions)) .connection) (fine-told d (lowestWaiting (d .subscriptions)) f)
     way false true = fine-sent d (lowestDue (d .connections)) f
     way false false = f
 
 keeps : (d : Device) (w : Asked) → Fine d → Apt rule open? admit d w → Fine (rule d w .0)
 unfolding rule openBy closeBy rules.tickBy resetBy
-keeps d (message n m out) f a = keeps-message d n m out f (admit-live d n out (a .0)) (a .1) (a .2) (decide m) refl
+keeps d (handed n m out) f a = keeps-message d n m out f (admit-live d n out (a .0)) (a .1) (a .2) (decide m) refl
 keeps d (asked opening) f a = go (openOf d .answer)
   where
     go : (x : Opening) → Fine (openBy x d (openOf d .device) .0)
@@ -179,36 +179,36 @@ mask-beyond p (x ∷ l) zero h = absurd (not-suc-le-zero h)
 mask-beyond p (x ∷ l) (suc k) h = rw (bit-half (mask p l) (p x)) (mask-beyond p l k (le-of-suc-le-suc h))
 
 -- a tick that is not refused
-closed-shape : (d : Device) (reading step m : ℕ) → tickBy d reading step .answer ≡ ticks.Closed m
-    → (tickBy d reading step .device .connections ≡ map (tickedOf step) (d .connections)) × (mask (closesAt step) (d .connections) ≡ m)
-unfolding tickBy sweepOf
+closed-shape : (d : Device) (reading step m : ℕ) → tickStep d reading step .answer ≡ ticks.Closed m
+    → (tickStep d reading step .device .connections ≡ map (connectionTicked step) (d .connections)) × (mask (closesAt step) (d .connections) ≡ m)
+unfolding tickStep sweepOf
 closed-shape d reading step m e = go (leb (2 ^ 31) step) (all (fitsStep step) (d .connections)) e
   where
     go : (a b : Bool)
         → cond {A = Ticked} a (record { device = d; answer = ticks.ClockBack })
-        (cond b (record { device = sweepOf (advanced d reading (map (tickedOf step) (d .connections))); answer = ticks.Closed (mask (closesAt step) (d .connections)) })
+        (cond b (record { device = sweepOf (advanced d reading (map (connectionTicked step) (d .connections))); answer = ticks.Closed (mask (closesAt step) (d .connections)) })
         (record { device = d; answer = ticks.Overrun })) .answer ≡ ticks.Closed m
         → (cond {A = Ticked} a (record { device = d; answer = ticks.ClockBack })
-        (cond b (record { device = sweepOf (advanced d reading (map (tickedOf step) (d .connections))); answer = ticks.Closed (mask (closesAt step) (d .connections)) })
-        (record { device = d; answer = ticks.Overrun })) .device .connections ≡ map (tickedOf step) (d .connections)) × (mask (closesAt step) (d .connections) ≡ m)
+        (cond b (record { device = sweepOf (advanced d reading (map (connectionTicked step) (d .connections))); answer = ticks.Closed (mask (closesAt step) (d .connections)) })
+        (record { device = d; answer = ticks.Overrun })) .device .connections ≡ map (connectionTicked step) (d .connections)) × (mask (closesAt step) (d .connections) ≡ m)
     go true b e = absurd (let z : _≡_ {A = ℕ} 0 1 = cc in omega arith)
     go false true e = (refl, cc)
     go false false e = absurd (let z : _≡_ {A = ℕ} 0 1 = cc in omega arith)
 
 -- a closed connection stays closed
-ticked-closed : (step : ℕ) → tickedOf step closed ≡ closed
-unfolding tickedOf
+ticked-closed : (step : ℕ) → connectionTicked step closed ≡ closed
+unfolding connectionTicked
 ticked-closed step = refl
 
 -- it closes exactly the connections whose bits it sets
-closed-tells : (d : Device) (reading step m k : ℕ) → tickBy d reading step .answer ≡ ticks.Closed m → k < length (d .connections) → liveAt (d .connections) k ≡ true
-    → liveAt (tickBy d reading step .device .connections) k ≡ not (bitOf m k)
+closed-tells : (d : Device) (reading step m k : ℕ) → tickStep d reading step .answer ≡ ticks.Closed m → k < length (d .connections) → liveAt (d .connections) k ≡ true
+    → liveAt (tickStep d reading step .device .connections) k ≡ not (bitOf m k)
 unfolding liveAt
 closed-tells d reading step m k e h l =
     let s = closed-shape d reading step m e in
     let c = getD (d .connections) k closed in
-    let g : getD (map (tickedOf step) (d .connections)) k closed ≡ tickedOf step c =
-    ap (λ (z : Connection). getD (map (tickedOf step) (d .connections)) k z) (sym (ticked-closed step)) ∙ List·getD-map (tickedOf step) (d .connections) k closed in
+    let g : getD (map (connectionTicked step) (d .connections)) k closed ≡ connectionTicked step c =
+    ap (λ (z : Connection). getD (map (connectionTicked step) (d .connections)) k z) (sym (ticked-closed step)) ∙ List·getD-map (connectionTicked step) (d .connections) k closed in
     let b : bitOf m k ≡ closesAt step c = rw (← s .1) (mask-bit (closesAt step) (d .connections) k closed h) in
     let r : (c .live && not (closesAt step c)) ≡ not (bitOf m k) = rw (l, b) in
     ap (λ (cs : List Connection). getD cs k closed .live) (s .0) ∙ ap (λ (z : Connection). z .live) g ∙ supervision-kept .leaving step c ∙ r
@@ -239,7 +239,7 @@ message-tells d n m out k l (Sound t) = live-sound d n m k ∙ l
 
 tells : (d : Device) (w : Asked) (k : ℕ) → Fine d → Apt rule open? admit d w → open? d k ≡ true → open? (rule d w .0) k ≡ not (shut w (rule d w .1) k)
 unfolding rule shut openBy closeBy resetBy takeBy takenBy notifying reminding sentOut notifiedOf
-tells d (message n m out) k f a l = message-tells d n m out k l (decide m)
+tells d (handed n m out) k f a l = message-tells d n m out k l (decide m)
 tells d (asked opening) k f a l = go (openOf d .answer)
   where
     go : (x : Opening) → liveAt (openBy x d (openOf d .device) .0 .connections) k ≡ true
@@ -259,7 +259,7 @@ tells d (asked (taking out)) k f a l = go (ltb (length out) leastOutput)
     way : (b c : Bool)
         → liveAt (cond {A = Outcome} b (notifying (stateOf d []) out (lowestWaiting (d .subscriptions)))
         (cond c (reminding (stateOf d []) out (lowestDue (d .connections))) (outcome (0 ∷ 0 ∷ []) (stateOf d []) [] out)) .state .device .connections) k ≡ true
-    way true c = live-alike d (notifiedOf d (lowestWaiting (d .subscriptions))) k (lives-sent (toldAt d (lowestWaiting (d .subscriptions))) (entryAt d (lowestWaiting (d .subscriptions)) .connection) ∙ lives-told d (lowestWaiting (d .subscriptions))) ∙ l
+    way true c = live-alike d (notifiedOf d (lowestWaiting (d .subscriptions))) k (lives-sent (toldAt d (lowestWaiting (d .subscriptions))) (subscriptionAt d (lowestWaiting (d .subscriptions)) .connection) ∙ lives-told d (lowestWaiting (d .subscriptions))) ∙ l
     way false true = live-alike d (sentAt d (lowestDue (d .connections))) k (lives-sent d (lowestDue (d .connections))) ∙ l
     way false false = l
 

@@ -19,10 +19,10 @@ use Rattle.frame.specs.Decide.{decide, settled}
 use Rattle.frame.proofs.Bytes.{nil-waits}
 use Rattle.area.specs.Area.{partBytes, areaBytes, partAt, partSound, partsSound, areaSound, undecidedOf, countObeys, heldObeys}
 use Rattle.connection.specs.State.{liveAt}
-use Rattle.device.specs.Rules.{deviceObeys}
+use Rattle.device.specs.Obeys.{deviceObeys}
 use Rattle.device.specs.declared.Device.{Device}
 use Rattle.stream.specs.Machine.{Held}
-use Rattle.stream.specs.Lent.{partOf, flat, counted}
+use Rattle.stream.specs.Lent.{partHolding, flat, countsOf}
 use Rattle.stream.proofs.Lent.{length-counted, getD-counted}
 use Rattle.stream.proofs.Bytes.{octets-nil}
 use Rattle.endpoint.specs.State.{livesIn, recordObeys}
@@ -31,12 +31,12 @@ use Rattle.endpoint.specs.declared.Record.{Record}
 use Rattle.endpoint.proofs.States.{area-long}
 use Rattle.endpoint.proofs.Lies.{part-at, lies}
 use Rattle.endpoint.proofs.Gathers.{length-undecided}
-use Rattle.promise.specs.Rules.{Fine}
+use Rattle.promise.specs.Rulebook.{Fine}
 use Rattle.promise.specs.Kept.{Kept}
 use Rattle.promise.proofs.Lives.{GoodAt, lives-get, length-lives}
 
 -- parts, one behind another
-flat-parts : (h : Held) (n : ℕ) (a : List ℕ) → length a ≡ partAt n → ((c : ℕ) → c < n → take partBytes (drop (partAt c) a) ≡ partOf (h c)) → flat h n ≡ a
+flat-parts : (h : Held) (n : ℕ) (a : List ℕ) → length a ≡ partAt n → ((c : ℕ) → c < n → take partBytes (drop (partAt c) a) ≡ partHolding (h c)) → flat h n ≡ a
 unfolding flat
 flat-parts h zero [] l f = refl
 flat-parts h zero (x ∷ a) l f = absurd (omega arith)
@@ -45,7 +45,7 @@ flat-parts h (suc n) a l f =
     let r = drop (partAt n) a in
     let lt : length t ≡ partAt n = length-take-le (partAt n) a (omega arith) in
     let lr : length r ≤ partBytes = rw length-drop (omega arith) in
-    let last : partOf (h n) ≡ r = sym (f n (omega arith)) ∙ take-all partBytes r lr in
+    let last : partHolding (h n) ≡ r = sym (f n (omega arith)) ∙ take-all partBytes r lr in
     let front : flat h n ≡ t = flat-parts h n t lt (λ c k. part c k ∙ f c (omega arith)) in
     rw (front, last) (take-append-drop (partAt n) a)
   where
@@ -54,8 +54,8 @@ flat-parts h (suc n) a l f =
         rw (drop-take (partAt c) (partAt n) a) (take-take partBytes (partAt n - partAt c) (drop (partAt c) a) (omega arith))
 
 -- a sound part is its undecided bytes first and zeros after
-part-whole : (k : ℕ) (part : List ℕ) → k ≤ partBytes → length part ≡ partBytes → partSound k part ≡ true → part ≡ partOf (take k part)
-unfolding partSound partOf
+part-whole : (k : ℕ) (part : List ℕ) → k ≤ partBytes → length part ≡ partBytes → partSound k part ≡ true → part ≡ partHolding (take k part)
+unfolding partSound partHolding
 part-whole k part l m s =
     let z = zeros-of-all (drop k part) (and-right (not (settled (decide (take k part)))) (allZero (drop k part)) s) in
     let a : length (drop k part) ≡ partBytes - length (take k part) = omega (arith, length-drop k part, length-take-le k part (omega arith)) in
@@ -124,9 +124,9 @@ module _ (r : Record) (area : List ℕ) (w : Kept r area) where
   length-here : (n : ℕ) → n < 8 → length (heldIn r area n) ≡ heldAt r n
   length-here n l = ap length (here n l) ∙ length-undecided area n (heldAt r n) (lying n l)
 
-  pub kept-counts : counted (heldIn r area) 8 ≡ r .held
+  pub kept-counts : countsOf (heldIn r area) 8 ≡ r .held
   kept-counts =
-      ext-getD 0 (counted (heldIn r area) 8) (r .held) (length-counted (heldIn r area) 8 ∙ sym (w .counts))
+      ext-getD 0 (countsOf (heldIn r area) 8) (r .held) (length-counted (heldIn r area) 8 ∙ sym (w .counts))
       (λ i l.
       let m : i < 8 = omega (arith, length-counted (heldIn r area) 8) in
       getD-counted (heldIn r area) 8 i m ∙ length-here i m)
@@ -139,7 +139,7 @@ module _ (r : Record) (area : List ℕ) (w : Kept r area) where
       sounds true p e = e
       sounds false p e = absurd (true≢false (sym e))
 
-      part : (c : ℕ) → c < 8 → take partBytes (drop (partAt c) area) ≡ partOf (heldIn r area c)
+      part : (c : ℕ) → c < 8 → take partBytes (drop (partAt c) area) ≡ partHolding (heldIn r area c)
       part c l =
           let k = heldAt r c in
           let x = drop (partAt c) area in
@@ -147,4 +147,4 @@ module _ (r : Record) (area : List ℕ) (w : Kept r area) where
           let s = part-at (r .held) area c (sounds (eqb (length area) areaBytes) (partsSound (r .held) area) (w .sound)) (omega (arith, w .counts)) in
           let q = part-whole k (take partBytes x) (omega (arith, y .few)) (length-take-le partBytes x (rw length-drop (omega (arith, long)))) s in
           let m : take k (take partBytes x) ≡ heldIn r area c = take-take k partBytes x (omega (arith, y .few)) ∙ sym (here c l) in
-          q ∙ ap partOf m
+          q ∙ ap partHolding m

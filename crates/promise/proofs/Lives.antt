@@ -14,10 +14,10 @@ use Rattle.frame.specs.Decide.{decide, settled}
 use Rattle.frame.proofs.Ways.{deciding, unsettled}
 use Rattle.area.specs.Area.{countObeys, heldObeys}
 use Rattle.laws.specs.Lists.{any}
-use Rattle.connection.specs.State.{connectionCount, closed, opened, liveAt, isFree, lowestFree}
+use Rattle.connection.specs.State.{connectionCount, closed, opened, liveAt, isNotOpen, lowestFree}
 use Rattle.connection.specs.declared.Connection.{Connection}
 use Rattle.device.specs.State.{freshOf, withConnections, openOf, closeOf, sentAt, toldAt}
-use Rattle.device.specs.Rules.{deviceObeys}
+use Rattle.device.specs.Obeys.{deviceObeys}
 use Rattle.device.specs.Closure.{ClosureFrees, Gone}
 use Rattle.device.specs.declared.Device.{Device}
 use Rattle.device.specs.declared.Opened.{Opened}
@@ -26,12 +26,12 @@ use Rattle.rules.specs.Rule.{Ruled, soundOf}
 use Rattle.rules.proofs.Keeps.{sound-kept}
 use Rattle.device.proofs.Closures.{closure-frees}
 use Rattle.stream.specs.Machine.{Held, put, only}
-use Rattle.stream.specs.Lent.{flat, counted, livesOf}
+use Rattle.stream.specs.Lent.{flat, countsOf, livesOf}
 use Rattle.stream.specs.Promise.{Good}
 use Rattle.stream.proofs.Lent.{put-same, put-other, length-counted, getD-counted, length-lives-of, getD-lives-of}
 use Rattle.stream.proofs.Stream.{put-elim}
 use Rattle.endpoint.specs.State.{stateOf, isLive, livesIn, recordObeys}
-use Rattle.promise.specs.Rules.{rule, open?, admit, shut, Fine}
+use Rattle.promise.specs.Rulebook.{rule, open?, admit, shut, Fine}
 
 abbrev pub GoodAt : Device → Held → Type 0
 GoodAt d h = Good rule open? admit shut Fine d h
@@ -58,14 +58,14 @@ count-good true x w e = le-leb (length x) greatestSize (deciding .short x (unset
 count-good false x w e = rw (e refl)
 
 pub held-obeys : (d : Device) (h : Held) → length (d .connections) ≡ 8 → ((n : ℕ) → settled (decide (h n)) ≡ false)
-    → ((n : ℕ) → liveAt (d .connections) n ≡ false → h n ≡ []) → heldObeys (livesIn d) (counted h 8) ≡ true
+    → ((n : ℕ) → liveAt (d .connections) n ≡ false → h n ≡ []) → heldObeys (livesIn d) (countsOf h 8) ≡ true
 held-obeys d h e w z =
-    all-counts (livesIn d) (counted h 8)
+    all-counts (livesIn d) (countsOf h 8)
     (λ n l.
     let m : n < 8 = omega (arith, length-lives d) in
     rw (lives-get d n, getD-counted h 8 n m) (count-good (liveAt (d .connections) n) (h n) (w n) (z n)))
 
-pub record-obeys : (d : Device) (h : Held) → GoodAt d h → recordObeys (stateOf d (counted h 8)) ≡ true
+pub record-obeys : (d : Device) (h : Held) → GoodAt d h → recordObeys (stateOf d (countsOf h 8)) ≡ true
 unfolding recordObeys
 record-obeys d h good = rw (good .fine .obeys) (held-obeys d h (good .fine .eight) (good .waiting) (good .empty))
 
@@ -121,7 +121,7 @@ live-still d i k l = go (eqb k i) refl
 
 pub open-still : (d : Device) (k : ℕ) → liveAt (d .connections) k ≡ true → liveAt (openOf d .device .connections) k ≡ true
 unfolding openOf
-open-still d k l = go (any isFree (d .connections))
+open-still d k l = go (any isNotOpen (d .connections))
   where
     go : (b : Bool)
         → liveAt (cond {A = Opened} b (record { device = withConnections d (set (d .connections) (lowestFree (d .connections)) opened); answer = Number (lowestFree (d .connections)) })

@@ -20,8 +20,8 @@ use Rattle.endpoint.specs.State.{freshState, recordObeys}
 use Rattle.endpoint.specs.Numbers.{badRecord, badArea, Outcome, outcome, refused}
 use Rattle.reset.specs.Datagram.{restarted, datagramCall}
 use Rattle.endpoint.specs.declared.Record.{Record}
-use Rattle.promise.specs.Rules.{Ask, datagram, rule, open?, admit, resetBy, callOf}
-use Rattle.promise.specs.Stream.{runOf}
+use Rattle.promise.specs.Rulebook.{Ask, datagram, rule, open?, admit, resetBy, callOf}
+use Rattle.promise.specs.Stream.{runCalls}
 use Rattle.promise.specs.Reset.{Matches, aReset, ResetByKey}
 use Rattle.promise.proofs.Lives.{fresh-shut}
 
@@ -122,9 +122,9 @@ once reading area g a =
     clash ⊥ (freshState reading .device .mechanism .armed) armed k
 
 pub anew : (r : Record) (area g : List ℕ) (cs : List (Call Ask (List ℕ))) → datagramCall r area g .answer ≡ aReset
-    → runOf r area (ask (datagram g) ∷ cs)
-    ≡ (runOf (freshState (r .device .reading)) (zeros areaBytes) cs .0, restarted r ∷ runOf (freshState (r .device .reading)) (zeros areaBytes) cs .1)
-unfolding runOf callOf restarted
+    → runCalls r area (ask (datagram g) ∷ cs)
+    ≡ (runCalls (freshState (r .device .reading)) (zeros areaBytes) cs .0, restarted r ∷ runCalls (freshState (r .device .reading)) (zeros areaBytes) cs .1)
+unfolding runCalls callOf restarted
 anew r area g cs a = rw (done r area g a) refl
 
 nobody : (d : Device) (h : Held) (g : List ℕ) → datagrams.resets (d .mechanism) g ≡ true

@@ -19,17 +19,17 @@ use Rattle.frame.specs.declared.Decision.the-variants.{Undecided, Faulty, Sound
 use Rattle.mechanism.specs.Arguments.{armedBy}
 use Rattle.mechanism.specs.Datagram.{resets}
 use Rattle.area.specs.Area.{areaSound, undecidedOf, heldKept}
-use Rattle.connection.specs.State.{connectionCount, closed, opened, liveAt, isFree, lowestDue}
-use Rattle.connection.specs.Supervision.{fitsStep, closesAt, tickedOf, heardOf, sentOf, beatingOf}
+use Rattle.connection.specs.State.{connectionCount, closed, opened, liveAt, isNotOpen, lowestDue}
+use Rattle.connection.specs.Supervision.{fitsStep, closesAt, connectionTicked, heardOf, sentOf, beatingOf}
 use Rattle.connection.specs.declared.Connection.{Connection}
 use Rattle.connection.proofs.Keeps.{supervision-kept}
 use Rattle.objects.specs.Answers.{failedOf}
 use Rattle.holders.specs.Holders.{ownerOf, isOther}
 use Rattle.subscription.specs.State.{entryCount, free, twinAt, lowestUnused, lowestWaiting}
 use Rattle.objects.specs.Methods.{lockMethod, unlockMethod, setMethod, addMethod, removeMethod, resetKeyMethod, placeOf, isObject, isLocking, hasMethod}
-use Rattle.objects.specs.Tests.{isForbidden, isMalformed, entryOf, isEmitterBad, isValueBad}
+use Rattle.objects.specs.Tests.{isForbidden, isMalformed, subscriptionFrom, isEmitterBad, isValueBad}
 use Rattle.serve.specs.Serve.{ranWith, ranFirst, lastOf}
-use Rattle.rules.specs.Rule.{Ruled, commandsOf, beatOf, soundOf}
+use Rattle.rules.specs.Rule.{Ruled, commandsOf, keptAlive, soundOf}
 use Rattle.frame.specs.Limits.{headerEnd, notification, keepAlive}
 use Rattle.frame.specs.Header.{pduType, messageCount}
 use Rattle.frame.specs.Entry.{entrySize}
@@ -39,8 +39,8 @@ use Rattle.device.specs.Run.{holderAt, muteAt, isHeldByOther, isOutOfTurn, isFu
 use Rattle.device.specs.declared.Opened.{Opened}
 use Rattle.device.specs.declared.Opening.{Opening}
 use Rattle.device.specs.declared.Opening.the-variants as opens
-use Rattle.device.specs.Rules.{deviceObeys}
-use Rattle.device.specs.Time.{tickBy, tickOf}
+use Rattle.device.specs.Obeys.{deviceObeys}
+use Rattle.device.specs.Time.{tickStep, tickOf}
 use Rattle.device.specs.Closure.{isLockOf, locksOf, Stays}
 use Rattle.device.specs.declared.Device.{Device}
 use Rattle.device.specs.declared.Ran.{Ran}
@@ -53,12 +53,12 @@ use Rattle.endpoint.specs.State.{livesIn, recordObeys, closedState}
 use Rattle.endpoint.specs.Numbers.{clockBack, Outcome, refused}
 use Rattle.endpoint.specs.Calls.{openedBy, openCall, closeCall, tickedBy, tickCall}
 use Rattle.endpoint.specs.Deliver.{leastOutput, heldAt, messaged, deliveredBy, takenIn, deliverCall}
-use Rattle.endpoint.specs.Take.{entryAt, notifiedOf, sentOut, notifying, reminding, takenBy, takeCall}
+use Rattle.endpoint.specs.Take.{subscriptionAt, notifiedOf, sentOut, notifying, reminding, takenBy, takeCall}
 use Rattle.reset.specs.Datagram.{datagramCall}
 use Rattle.endpoint.specs.declared.Record.{Record}
 use Rattle.endpoint.proofs.States.{live-low}
-use Rattle.promise.specs.Rules as rules
-use Rattle.promise.specs.Rules.{Ask, opening, closing, ticking, taking, datagram, rule, bitOf, shut, Fine, callOf}
+use Rattle.promise.specs.Rulebook as rules
+use Rattle.promise.specs.Rulebook.{Ask, opening, closing, ticking, taking, datagram, rule, bitOf, shut, Fine, callOf}
 use Rattle.promise.specs.Technician.{Watched, stepAt, passes, Closes, Leaves, lockStatus, isSilent, callsOf, allSilent, readingBy, stepBy, timeOf, Exactly, TechnicianLetIn}
 use Rattle.promise.proofs.Lives.{lives-get, length-lives}
 use Rattle.promise.proofs.Laws.{device-laws}
@@ -85,7 +85,7 @@ unfolding recordObeys
 device-obeys r o = and-left (deviceObeys (r .device)) _ o
 
 pub passed : (r : Record) (area : List ℕ) (reading : ℕ) → passes r area reading ≡ true → Ticks r area reading
-unfolding passes tickCall tickBy tickedBy
+unfolding passes tickCall tickStep tickedBy
 passed r area reading p =
     go (recordObeys r) refl (areaSound (r .held) area) refl (leb (2 ^ 31) (stepAt r reading)) refl
     (all (fitsStep (stepAt r reading)) (r .device .connections)) refl
@@ -111,9 +111,9 @@ held-none (b ∷ lives) (k ∷ held) (suc n) h e = held-none lives held n (le-of
 
 -- connection n after a tick
 pub ticked-at : (r : Record) (reading n : ℕ) → Timely r reading
-    → getD (tickOf (r .device) reading .device .connections) n closed ≡ tickedOf (stepAt r reading) (getD (r .device .connections) n closed)
-unfolding tickBy sweepOf tickedOf
-ticked-at r reading n t = rw (t .early, t .fits) (List·getD-map (tickedOf (stepAt r reading)) (r .device .connections) n closed)
+    → getD (tickOf (r .device) reading .device .connections) n closed ≡ connectionTicked (stepAt r reading) (getD (r .device .connections) n closed)
+unfolding tickStep sweepOf connectionTicked
+ticked-at r reading n t = rw (t .early, t .fits) (List·getD-map (connectionTicked (stepAt r reading)) (r .device .connections) n closed)
 
 -- no step closes a connection without a heartbeat
 pub never-idle : (step : ℕ) (c : Connection) → c .beat ≡ 0 → closesAt step c ≡ false
@@ -137,19 +137,19 @@ module _ (r : Record) (area : List ℕ) (reading : ℕ) (p : passes r area readi
   answer = ap (λ (o : Outcome). o .answer) (t .given)
 
   -- connection n after it; there are as many entries as before
-  pub connection-after : (n : ℕ) → getD (tickCall r area reading .state .device .connections) n closed ≡ tickedOf (stepAt r reading) (getD (r .device .connections) n closed)
+  pub connection-after : (n : ℕ) → getD (tickCall r area reading .state .device .connections) n closed ≡ connectionTicked (stepAt r reading) (getD (r .device .connections) n closed)
   connection-after n = rw after (ticked-at r reading n (t .timely))
 
   pub entries-after : length (tickCall r area reading .state .device .subscriptions) ≡ length (r .device .subscriptions)
-  unfolding tickBy sweepOf
+  unfolding tickStep sweepOf
   entries-after = rw (after, t .timely .early, t .timely .fits) (length-map (r .device .subscriptions) _)
 
   told : tickOf (r .device) reading .answer ≡ ticks.Closed (maskAt r reading)
-  unfolding tickBy
+  unfolding tickStep
   told = rw (t .timely .early, t .timely .fits)
 
   pub moved : tickCall r area reading .state .device .reading ≡ reading
-  unfolding tickBy sweepOf
+  unfolding tickStep sweepOf
   moved = rw (after, t .timely .early, t .timely .fits)
 
   ruled : rule (r .device) (asked (ticking reading)) ≡ (tickOf (r .device) reading .device, rules.given (0 ∷ maskAt r reading ∷ []) [])
@@ -275,8 +275,8 @@ record Same (n : ℕ) (d e : Device) : Type 0 where
   locks : (at : ℕ) → getD (d .holders) at 0 ≡ n + 1 → getD (e .holders) at 0 ≡ n + 1
 
 -- an open connection does not stand at the lowest free number
-opened-other : (cs : List Connection) (n : ℕ) → getD cs n closed .live ≡ true → getD (set cs (index isFree cs) opened) n closed ≡ getD cs n closed
-unfolding isFree
+opened-other : (cs : List Connection) (n : ℕ) → getD cs n closed .live ≡ true → getD (set cs (index isNotOpen cs) opened) n closed ≡ getD cs n closed
+unfolding isNotOpen
 opened-other [] n l = refl
 opened-other (c ∷ cs) zero l = rw l
 opened-other (c ∷ cs) (suc n) l = go (c .live) (opened-other cs n l)
@@ -349,7 +349,7 @@ module _ (n : ℕ) where
   open-same : (d : Device) → liveAt (d .connections) n ≡ true → Same n d (openOf d .device)
   unfolding openOf liveAt
   open-same d l =
-      either (λ (o : Opened). Same n d (o .device)) (any isFree (d .connections)) _ _
+      either (λ (o : Opened). Same n d (o .device)) (any isNotOpen (d .connections)) _ _
       (same-of d _ refl (length-set (d .connections) _ opened) (opened-other (d .connections) n l) (λ at h. h))
       (same-refl d)
 
@@ -392,8 +392,8 @@ module _ (n : ℕ) where
             → Same n d (cond a (withHolders d (set (d .holders) (placeOf target) (ownerOf k)))
             (cond b (withHolders d (set (d .holders) (placeOf target) 0))
             (cond (eqb m setMethod) (mutedOf d target (getD part 0 0))
-            (cond (eqb m addMethod) (withSubscriptions d (set (d .subscriptions) (lowestUnused (d .subscriptions)) (entryOf k part)))
-            (cond (eqb m removeMethod) (withSubscriptions d (set (d .subscriptions) (twinAt (entryOf k part) (d .subscriptions)) free))
+            (cond (eqb m addMethod) (withSubscriptions d (set (d .subscriptions) (lowestUnused (d .subscriptions)) (subscriptionFrom k part)))
+            (cond (eqb m removeMethod) (withSubscriptions d (set (d .subscriptions) (twinAt (subscriptionFrom k part) (d .subscriptions)) free))
             (cond (eqb m resetKeyMethod) (withMechanism d (armedBy part))
             d))))))
         go true b h = held (ownerOf k) h
@@ -422,7 +422,7 @@ module _ (n : ℕ) where
 
     -- a sound message of k
     sound-same : (d : Device) (m : List ℕ) → Same n d (soundOf d k m .device)
-    unfolding soundOf beatOf commandsOf heardAt beatingAt
+    unfolding soundOf keptAlive commandsOf heardAt beatingAt
     sound-same d m =
         let t = drop headerEnd m in
         let h = at-same heardOf d in
@@ -499,7 +499,7 @@ take-call r out n =
     let i = lowestWaiting (d .subscriptions) in
     either P (recordObeys r) _ _
     (either P (ltb (length out) leastOutput) _ _ (same-refl n d)
-    (either P (ltb i entryCount) _ _ (same-on n d (toldAt d i) _ (told-same n d i) (sent-same n (toldAt d i) (entryAt d i .connection)))
+    (either P (ltb i entryCount) _ _ (same-on n d (toldAt d i) _ (told-same n d i) (sent-same n (toldAt d i) (subscriptionAt d i .connection)))
     (either P (ltb (lowestDue (d .connections)) connectionCount) _ _ (sent-same n d (lowestDue (d .connections))) (same-refl n d))))
     (same-refl n d)
   where
@@ -596,13 +596,13 @@ first r area (c ∷ rest) y n H s w p l u =
 -- ---- refusals
 module _ (r : Record) (area : List ℕ) (reading : ℕ) (o : recordObeys r ≡ true) (a : areaSound (r .held) area ≡ true) where
   passing : stepAt r reading < 2 ^ 31 → passes r area reading ≡ true
-  unfolding passes tickCall tickBy tickedBy
+  unfolding passes tickCall tickStep tickedBy
   passing h =
       let e = lt-leb (2 ^ 31) (stepAt r reading) h in
       rw (o, a, e, rules-kept .fitting (r .device) reading (device-obeys r o) e)
 
   refusing : 2 ^ 31 ≤ stepAt r reading → tickCall r area reading ≡ refused clockBack r area []
-  unfolding tickCall tickBy tickedBy
+  unfolding tickCall tickStep tickedBy
   refusing h = rw (o, a, le-leb (2 ^ 31) (stepAt r reading) h)
 
 -- ---- with numbers

@@ -9,17 +9,17 @@ use lib.ListN.{getD, take, drop}
 use Rattle.octets.specs.Zeros.{zeros}
 use Rattle.area.specs.Area.{partBytes, partAt}
 use Rattle.connection.specs.State.{closed, opened, liveAt}
-use Rattle.device.specs.Closure.{locksOf, entriesOf, noLocks, noEntries, Gone, Stays}
+use Rattle.device.specs.Closure.{locksOf, subscriptionsOf, noLocks, noEntries, Gone, Stays}
 use Rattle.endpoint.specs.Numbers.{Outcome}
 use Rattle.endpoint.specs.Calls.{openCall, closeCall, tickCall}
 use Rattle.endpoint.specs.Deliver.{heldAt, deliverCall}
 use Rattle.endpoint.specs.declared.Record.{Record}
-use Rattle.promise.specs.Rules.{bitOf}
+use Rattle.promise.specs.Rulebook.{bitOf}
 use Rattle.promise.specs.Kept.{Kept}
 
 -- connection n's part of the area
-unfoldable pub partIn : List ℕ → ℕ → List ℕ
-partIn area n = take partBytes (drop (partAt n) area)
+unfoldable pub areaPart : List ℕ → ℕ → List ℕ
+areaPart area n = take partBytes (drop (partAt n) area)
 
 -- nothing of connection n is left in r' and its area, which came of r: it is closed and all zero, no lock, entry or mark is its own,
 -- its count is 0 and its part zeros
@@ -27,13 +27,13 @@ pub record Left (n : ℕ) (r r' : Record) (area' : List ℕ) : Type 0 where
   pub gone : Gone n (r .device) (r' .device)
   pub blank : getD (r' .device .connections) n closed ≡ closed
   pub count : heldAt r' n ≡ 0
-  pub bytes : partIn area' n ≡ zeros partBytes
+  pub bytes : areaPart area' n ≡ zeros partBytes
 
 -- connection k is open, with its locks, entries, marks, count and part as they were
 pub record Unmoved (k : ℕ) (r : Record) (area : List ℕ) (r' : Record) (area' : List ℕ) : Type 0 where
   pub stays : Stays k (r .device) (r' .device)
   pub count : heldAt r' k ≡ heldAt r k
-  pub bytes : partIn area' k ≡ partIn area k
+  pub bytes : areaPart area' k ≡ areaPart area k
 
 -- a call that closed connection n alone
 pub record Closed (n : ℕ) (r : Record) (area : List ℕ) (o : Outcome) : Type 0 where
@@ -47,9 +47,9 @@ pub record New (n : ℕ) (r r' : Record) (area : List ℕ) : Type 0 where
   pub free : liveAt (r .device .connections) n ≡ false
   pub connection : getD (r' .device .connections) n closed ≡ opened
   pub locks : locksOf n (r' .device) ≡ noLocks (r .device)
-  pub entries : entriesOf n (r' .device) ≡ noEntries (r .device)
+  pub entries : subscriptionsOf n (r' .device) ≡ noEntries (r .device)
   pub count : heldAt r' n ≡ 0
-  pub bytes : partIn area n ≡ zeros partBytes
+  pub bytes : areaPart area n ≡ zeros partBytes
 
 pub record ClosureLeavesNothing : Type 0 where
   -- the host's close

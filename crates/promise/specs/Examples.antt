@@ -12,10 +12,10 @@ use Rattle.objects.specs.Answers.{identificationOf}
 use Rattle.device.specs.State.{freshOf, openOf}
 use Rattle.device.specs.Time.{stepOf}
 use Rattle.device.specs.declared.Device.{Device}
-use Rattle.stream.specs.Machine.{message, asked}
+use Rattle.stream.specs.Machine.{handed, asked}
 use Rattle.endpoint.specs.Numbers.{clockBack}
 use Rattle.endpoint.specs.Deliver.{leastOutput}
-use Rattle.promise.specs.Rules.{ticking, taking, Asked, Given, rule}
+use Rattle.promise.specs.Rulebook.{ticking, taking, Asked, Given, rule}
 
 -- what the rules give, and what the paper prints
 pub record Row : Type 0 where
@@ -31,13 +31,13 @@ twoOpen reading = openOf (openOf (freshOf reading) .device) .device
 
 -- the device after a message of connection n, and its answer and reply; an output of no length keeps no other bytes
 abbrev pub afterMessage : Device → ℕ → List ℕ → Device
-afterMessage d n m = rule d (message n m []) .0
+afterMessage d n m = rule d (handed n m []) .0
 
 abbrev pub told : Given → List ℕ
 told o = o .answer ++ o .output
 
 abbrev pub replyTo : Device → ℕ → List ℕ → List ℕ
-replyTo d n m = told (rule d (message n m []) .1)
+replyTo d n m = told (rule d (handed n m []) .1)
 
 -- connection 0's form, heartbeat and silence
 abbrev pub supervisionOf : Device → List ℕ
@@ -78,11 +78,11 @@ abbrev pub waiting : Device
 waiting = afterMessage subscribed 1 mute4097
 
 -- a starred message as it is read
-abbrev pub numbersOf : Example → List ℕ
-numbersOf e = e .reads ++ e .first ++ e .part
+abbrev pub exampleNumbers : Example → List ℕ
+exampleNumbers e = e .reads ++ e .first ++ e .part
 
 abbrev pub readRow : Example → Row
-readRow e = row (numbersOf (worked e)) (numbersOf e)
+readRow e = row (exampleNumbers (worked e)) (exampleNumbers e)
 
 -- "Keep-alive 2 s", "2,000 ms": the answer is the same bytes, and the heartbeat is kept in its form
 abbrev pub keepAliveRows : List Row

@@ -14,7 +14,7 @@ use Rattle.endpoint.specs.State.{freshState, recordObeys}
 use Rattle.endpoint.specs.Numbers.{Outcome}
 use Rattle.endpoint.specs.Calls.{clearedArea}
 use Rattle.endpoint.specs.declared.Record.{Record}
-use Rattle.promise.specs.Rules.{Ask, callOf}
+use Rattle.promise.specs.Rulebook.{Ask, callOf}
 
 -- rows 1 and 2 do not apply; the arrays have their lengths, and the area is made of bytes
 pub record Kept (r : Record) (area : List ℕ) : Type 0 where

@@ -25,14 +25,14 @@ use Rattle.device.specs.State.{withMechanism}
 use Rattle.device.specs.Run.{statusOf}
 use Rattle.device.specs.Run as commands
 use Rattle.device.specs.declared.Device.{Device}
-use Rattle.stream.specs.Machine.{Call, deliver, ask, message, asked, Held, glue}
+use Rattle.stream.specs.Machine.{Call, deliver, ask, handed, asked, Held, glue}
 use Rattle.stream.specs.Promise.{AllBytes}
-use Rattle.stream.specs.Lent.{flat, counted}
+use Rattle.stream.specs.Lent.{flat, countsOf}
 use Rattle.endpoint.specs.State.{stateOf}
 use Rattle.endpoint.specs.Numbers.{Outcome}
 use Rattle.endpoint.specs.declared.Record.{Record}
-use Rattle.promise.specs.Rules.{Ask, opening, closing, ticking, taking, datagram, Asked, rule, shut, callOf}
-use Rattle.promise.specs.Stream.{runOf, machine, GoodState}
+use Rattle.promise.specs.Rulebook.{Ask, opening, closing, ticking, taking, datagram, Asked, rule, shut, callOf}
+use Rattle.promise.specs.Stream.{runCalls, machine, GoodState}
 
 -- ---- the latest key
 
@@ -67,7 +67,7 @@ keyedMessage (Sound t) k m = keyedIn k m
 
 -- after a call of the rules
 unfoldable pub latest : Mechanism → Asked → Mechanism
-latest k (message n m out) = keyedMessage (decide m) k m
+latest k (handed n m out) = keyedMessage (decide m) k m
 latest k (asked opening) = k
 latest k (asked (closing n)) = k
 latest k (asked (ticking reading)) = k
@@ -90,7 +90,7 @@ pub record LatestKeyCounts : Type 0 where
   pub whole : (d : Device) (w : Asked) → rule d w .0 .mechanism ≡ latest (d .mechanism) w
   -- any list of calls, from any state that keeps the rules: the mechanism is that of the whole calls, one after another
   pub calls : (d : Device) (h : Held) (cs : List (Call Ask (List ℕ))) → GoodState d h → AllBytes cs
-      → runOf (stateOf d (counted h 8)) (flat h 8) cs .0 .0 .device .mechanism
+      → runCalls (stateOf d (countsOf h 8)) (flat h 8) cs .0 .0 .device .mechanism
       ≡ latestOver (d .mechanism) (glue shut h (machine d h cs .1) .0)
 
 -- ---- the key stays inside
@@ -134,4 +134,4 @@ pub record KeyStaysInside : Type 0 where
       → (seen (callOf r area c) ≡ seen (callOf s area c)) × AlikeButKey (callOf r area c .state) (callOf s area c .state)
   -- so for any list of calls, wrong guesses of the key among them: until a reset comes, nothing tells which of the two keys it is
   pub calls : (r s : Record) (area : List ℕ) (cs : List (Call Ask (List ℕ))) → AlikeButKey r s → noReset r area s area cs ≡ true
-      → (map seen (runOf r area cs .1) ≡ map seen (runOf s area cs .1)) × AlikeButKey (runOf r area cs .0 .0) (runOf s area cs .0 .0)
+      → (map seen (runCalls r area cs .1) ≡ map seen (runCalls s area cs .1)) × AlikeButKey (runCalls r area cs .0 .0) (runCalls s area cs .0 .0)

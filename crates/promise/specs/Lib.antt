@@ -1,4 +1,4 @@
-pub mod Rules
+pub mod Rulebook
 pub mod Kept
 pub mod Stream
 pub mod Examples

@@ -24,14 +24,14 @@ use Rattle.objects.specs.Methods.{methodNumber, lockMethod}
 use Rattle.device.specs.State.{muteCount, freshOf}
 use Rattle.device.specs.Run as commands
 use Rattle.device.specs.declared.Device.{Device}
-use Rattle.stream.specs.Machine.{Call, ask, message, asked, Held, none-held, step, glue}
+use Rattle.stream.specs.Machine.{Call, ask, handed, asked, Held, none-held, step, glue}
 use Rattle.stream.specs.Promise.{AllBytes}
 use Rattle.endpoint.specs.State.{freshState, recordObeys}
 use Rattle.endpoint.specs.Numbers.{badRecord, badArea, outcome, refused}
 use Rattle.reset.specs.Datagram.{restarted, datagramCall}
 use Rattle.endpoint.specs.declared.Record.{Record}
-use Rattle.promise.specs.Rules.{Ask, datagram, Asked, rule, open?, admit, shut}
-use Rattle.promise.specs.Stream.{runOf, machine}
+use Rattle.promise.specs.Rulebook.{Ask, datagram, Asked, rule, open?, admit, shut}
+use Rattle.promise.specs.Stream.{runCalls, machine}
 use Rattle.promise.specs.Technician.{lockStatus}
 
 -- what a datagram needs to reset: a record and an area that rows 1 and 2 let pass, a mechanism that is armed, the sentinel and its key
@@ -69,10 +69,10 @@ pub record ResetByKey : Type 0 where
       → (datagramCall r area g .answer ≡ aReset → ⊥) → datagramCall r area g ≡ outcome (0 ∷ 0 ∷ []) r area []
   -- "demand 3 counts anew from there": what follows a reset is what follows a fresh record and a zeroed area
   pub anew : (r : Record) (area g : List ℕ) (cs : List (Call Ask (List ℕ))) → datagramCall r area g .answer ≡ aReset
-      → runOf r area (ask (datagram g) ∷ cs)
+      → runCalls r area (ask (datagram g) ∷ cs)
       ≡ (
-        runOf (freshState (r .device .reading)) (zeros areaBytes) cs .0,
-        restarted r ∷ runOf (freshState (r .device .reading)) (zeros areaBytes) cs .1,
+        runCalls (freshState (r .device .reading)) (zeros areaBytes) cs .0,
+        restarted r ∷ runCalls (freshState (r .device .reading)) (zeros areaBytes) cs .1,
       )
   -- over whole messages too: no undecided byte is held, and no connection is open
   pub nobody : (d : Device) (h : Held) (g : List ℕ) → mechanism.resets (d .mechanism) g ≡ true
@@ -96,7 +96,7 @@ asksIn (Faulty fault t) at m = false
 asksIn (Sound t) at m = ltb (pduType m) notification && asksOver (messageCount m) at (pduType m) (drop headerEnd m)
 
 unfoldable pub asksFor : ℕ → Asked → Bool
-asksFor at (message n m out) = asksIn (decide m) at m
+asksFor at (handed n m out) = asksIn (decide m) at m
 asksFor at (asked a) = false
 
 -- none of these calls asks for it
@@ -115,7 +115,7 @@ pub record RackFreeAgain : Type 0 where
   pub first : (r : Record) (area g : List ℕ) (cs : List (Call Ask (List ℕ))) → datagramCall r area g .answer ≡ aReset → AllBytes cs
       → (k at : ℕ) → at < muteCount
       → nobodyAsks at (glue shut none-held (machine (freshOf (r .device .reading)) none-held cs .1) .0) ≡ true
-      → lockStatus (runOf r area (ask (datagram g) ∷ cs) .0 .0 .device) k at ≡ 0
+      → lockStatus (runCalls r area (ask (datagram g) ∷ cs) .0 .0 .device) k at ≡ 0
   -- he then holds it, and another gets status 3
   pub holds : (d : Device) (k j at : ℕ) → k < connectionCount → at < muteCount → length (d .holders) ≡ muteCount → lockStatus d k at ≡ 0
       → eqb j k ≡ false → lockStatus (commands.runOf d k (firstMute + at) lockMethod 0 [] .device) j at ≡ 3

@@ -9,8 +9,8 @@ use Rattle.layout.specs.Message as layouts
 use Rattle.mechanism.specs.Datagram.{sentinel}
 use Rattle.objects.specs.Methods.{deviceManager, subscriptionManager}
 use Rattle.device.specs.declared.Device.{Device}
-use Rattle.stream.specs.Machine.{message, asked}
-use Rattle.promise.specs.Rules.{opening, closing, datagram, rule}
+use Rattle.stream.specs.Machine.{handed, asked}
+use Rattle.promise.specs.Rulebook.{opening, closing, datagram, rule}
 use Rattle.promise.specs.Examples.{Row, row, twoOpen, afterMessage, replyTo}
 
 -- a command of 3.14 for an object, with handle 7 and this parameter count

@@ -14,22 +14,22 @@ use Rattle.device.specs.State.{freshOf}
 use Rattle.device.specs.declared.Device.{Device}
 use Rattle.stream.specs.Machine.{Call, deliver, ask, Whole, Answer, Held, none-held, run, step}
 use Rattle.stream.specs.Promise.{Bytes, AllBytes, Good, Streamed}
-use Rattle.stream.specs.Lent.{flat, counted}
-use Rattle.stream.specs.Cut.{drips, outcome}
+use Rattle.stream.specs.Lent.{flat, countsOf}
+use Rattle.stream.specs.Cut.{drips, comesTo}
 use Rattle.endpoint.specs.State.{stateOf, freshState}
 use Rattle.endpoint.specs.Numbers.{Outcome}
 use Rattle.endpoint.specs.Deliver.{leastOutput}
 use Rattle.endpoint.specs.declared.Record.{Record}
-use Rattle.promise.specs.Rules.{Ask, Given, rule, open?, admit, shut, Fine, callOf, toldOf}
+use Rattle.promise.specs.Rulebook.{Ask, Given, rule, open?, admit, shut, Fine, callOf, outcomeOf}
 use Rattle.promise.specs.Kept.{Kept}
 
 -- a list of calls, by the definitions that the contracts of the real calls cite, each state passed on as handed back:
 -- the last record and area, and what each call gave
-unfoldable pub runOf : Record → List ℕ → List (Call Ask (List ℕ)) → (Record × List ℕ) × List Outcome
-runOf r area [] = ((r, area), [])
-runOf r area (c ∷ cs) =
+unfoldable pub runCalls : Record → List ℕ → List (Call Ask (List ℕ)) → (Record × List ℕ) × List Outcome
+runCalls r area [] = ((r, area), [])
+runCalls r area (c ∷ cs) =
     let o = callOf r area c in
-    let t = runOf (o .state) (o .area) cs in
+    let t = runCalls (o .state) (o .area) cs in
     (t .0, o ∷ t .1)
 
 -- what each call is to give: the machine over pieces, whose device is the rules' and whose bytes are the undecided ones
@@ -37,7 +37,7 @@ unfoldable pub gives : Device → Held → List (Call Ask (List ℕ)) → List O
 gives d h [] = []
 gives d h (c ∷ cs) =
     let s = step rule open? admit d h c in
-    toldOf c (s .0 .0) (s .0 .1) (s .1) ∷ gives (s .0 .0) (s .0 .1) cs
+    outcomeOf c (s .0 .0) (s .0 .1) (s .1) ∷ gives (s .0 .0) (s .0 .1) cs
 
 abbrev pub machine : Device → Held → List (Call Ask (List ℕ)) → (Device × Held) × List (Call Ask (List ℕ) × Answer Given)
 machine d h cs = run rule open? admit d h cs
@@ -49,15 +49,15 @@ GoodState d h = Good rule open? admit shut Fine d h
 pub record StreamTheorem : Type 0 where
   -- a fresh record and a zeroed area are device freshOf with nothing held
   pub fresh : (reading : ℕ) → GoodState (freshOf reading) none-held
-  pub freshState : (reading : ℕ) → freshState reading ≡ stateOf (freshOf reading) (counted none-held 8)
+  pub freshState : (reading : ℕ) → freshState reading ≡ stateOf (freshOf reading) (countsOf none-held 8)
   pub freshArea : zeros areaBytes ≡ flat none-held 8
   -- every record and area to which rows 1 and 2 do not apply is a device with some bytes held
-  pub any : (r : Record) (area : List ℕ) → Kept r area → (h : Held) × (GoodState (r .device) h × ((r ≡ stateOf (r .device) (counted h 8)) × (area ≡ flat h 8)))
+  pub any : (r : Record) (area : List ℕ) → Kept r area → (h : Held) × (GoodState (r .device) h × ((r ≡ stateOf (r .device) (countsOf h 8)) × (area ≡ flat h 8)))
   -- the real calls, from any such state, give what the machine over pieces gives, and end where it ends: the record's counts and
   -- the area are the undecided bytes and nothing else
   pub real : (d : Device) (h : Held) (cs : List (Call Ask (List ℕ))) → GoodState d h → AllBytes cs
-      → runOf (stateOf d (counted h 8)) (flat h 8) cs
-      ≡ ((stateOf (machine d h cs .0 .0) (counted (machine d h cs .0 .1) 8), flat (machine d h cs .0 .1) 8), gives d h cs)
+      → runCalls (stateOf d (countsOf h 8)) (flat h 8) cs
+      ≡ ((stateOf (machine d h cs .0 .0) (countsOf (machine d h cs .0 .1) 8), flat (machine d h cs .0 .1) 8), gives d h cs)
   -- and the machine over pieces does what the rules do over whole messages, each at the place of its deciding byte
   pub whole : (d : Device) (h : Held) (cs : List (Call Ask (List ℕ))) → GoodState d h → AllBytes cs
       → Streamed rule open? admit shut Fine d h (machine d h cs .0) (machine d h cs .1)
@@ -66,7 +66,7 @@ pub record StreamTheorem : Type 0 where
 pub record CuttingDoesNotMatter : Type 0 where
   pub recut : (d : Device) (h : Held) (cs ds : List (Call Ask (List ℕ))) → GoodState d h → AllBytes cs → AllBytes ds
       → drips (zeros leastOutput) (machine d h cs .1) ≡ drips (zeros leastOutput) (machine d h ds .1)
-      → outcome rule open? admit d h cs ≡ outcome rule open? admit d h ds
+      → comesTo rule open? admit d h cs ≡ comesTo rule open? admit d h ds
 
 -- a call that is not a delivery to connection c
 abbrev pub NotTo : ℕ → Call Ask (List ℕ) → Type 0
@@ -77,4 +77,4 @@ NotTo c (ask a) = Unit {0}
 pub record MixingDoesNotMatter : Type 0 where
   pub swap : (d : Device) (h : Held) (c : ℕ) (p room : List ℕ) (x : Call Ask (List ℕ)) → admit d c room ≡ 0 → settled (decide (h c ++ p)) ≡ false
       → NotTo c x → open? (step rule open? admit d h x .0 .0) c ≡ true
-      → outcome rule open? admit d h (deliver c p room ∷ x ∷ []) ≡ outcome rule open? admit d h (x ∷ deliver c p room ∷ [])
+      → comesTo rule open? admit d h (deliver c p room ∷ x ∷ []) ≡ comesTo rule open? admit d h (x ∷ deliver c p room ∷ [])

@@ -25,7 +25,7 @@ use Rattle.endpoint.specs.Numbers.{clockBack, refused}
 use Rattle.endpoint.specs.Calls.{tickCall}
 use Rattle.endpoint.specs.Deliver.{heldAt, deliverCall}
 use Rattle.endpoint.specs.declared.Record.{Record}
-use Rattle.promise.specs.Rules.{Ask, opening, closing, ticking, taking, datagram, bitOf, callOf}
+use Rattle.promise.specs.Rulebook.{Ask, opening, closing, ticking, taking, datagram, bitOf, callOf}
 
 -- connection n of a device of eight is open, with heartbeat H above zero and that silence; that the device obeys the rules follows
 -- where a call is not refused

@@ -20,19 +20,19 @@ use Rattle.frame.specs.Entry.{entrySize}
 use Rattle.frame.specs.Sound.{SoundAt}
 use Rattle.fields.specs.Fields.{heartbeatOf}
 use Rattle.connection.specs.State.{closed, liveAt}
-use Rattle.connection.specs.Rules.{topMilliseconds}
+use Rattle.connection.specs.Obeys.{topMilliseconds}
 use Rattle.connection.specs.Supervision.{heardOf, sentOf, setBeat, supervised, beatingOf}
 use Rattle.connection.specs.Kept.{fitsForm}
 use Rattle.connection.specs.declared.Connection.{Connection}
 use Rattle.objects.specs.Answers.{failedOf}
 use Rattle.device.specs.State.{atConnection, heardAt, sentAt, toldAt, beatingAt}
-use Rattle.device.specs.Rules.{deviceObeys}
+use Rattle.device.specs.Obeys.{deviceObeys}
 use Rattle.device.specs.Run.{mutedOf, doneOf, answerOf, unchanged, ranBy, runOf}
 use Rattle.device.specs.declared.Device.{Device}
 use Rattle.device.specs.declared.Ran.{Ran}
 use Rattle.device.proofs.Keeps.{rules-kept}
 use Rattle.serve.specs.Serve.{ranWith, ranFirst, lastOf}
-use Rattle.rules.specs.Rule.{Ruled, commandsOf, beatOf, soundOf}
+use Rattle.rules.specs.Rule.{Ruled, commandsOf, keptAlive, soundOf}
 use Rattle.rules.specs.Kept.{livingOf, SoundKept}
 
 -- ---- a command leaves the connections as they are
@@ -139,7 +139,7 @@ heartbeat-fits t o =
 
 -- ---- a sound message
 obeying : (d : Device) (n : ℕ) (m : List ℕ) → Octets m → SoundAt m (length m) → liveAt (d .connections) n ≡ true → deviceObeys d ≡ true → deviceObeys (soundOf d n m .device) ≡ true
-unfolding soundOf beatOf
+unfolding soundOf keptAlive
 obeying d n m o s l h =
     let t = drop headerEnd m in
     let heard = rules-kept .hearing d n h in
@@ -152,7 +152,7 @@ obeying d n m o s l h =
     Kept r = deviceObeys (r .device) ≡ true
 
 living : (d : Device) (n : ℕ) (m : List ℕ) → livingOf (soundOf d n m .device) ≡ livingOf d
-unfolding soundOf beatOf
+unfolding soundOf keptAlive
 living d n m =
     let t = drop headerEnd m in
     either Kept (eqb (pduType m) keepAlive) _ _

@@ -10,7 +10,7 @@ use Rattle.frame.specs.Sound.{SoundAt}
 use Rattle.connection.specs.State.{liveAt}
 use Rattle.connection.specs.declared.Connection.{Connection}
 use Rattle.device.specs.State.{sentAt, toldAt}
-use Rattle.device.specs.Rules.{deviceObeys}
+use Rattle.device.specs.Obeys.{deviceObeys}
 use Rattle.device.specs.declared.Device.{Device}
 use Rattle.rules.specs.Rule.{Ruled, soundOf}
 

@@ -30,12 +30,12 @@ commandsOf d n kind count t =
     (ruled (sentAt (lastOf count d n kind t) n) (message response count (responsesOf count d n kind t)))
 
 -- "the device answers in the same form with the same value, zero too"
-unfoldable pub beatOf : Device → ℕ → Heartbeat → Ruled
-beatOf d n h = ruled (beatingAt d n h) (keepAliveBytes h)
+unfoldable pub keptAlive : Device → ℕ → Heartbeat → Ruled
+keptAlive d n h = ruled (beatingAt d n h) (keepAliveBytes h)
 
 -- "A sound message resets its connection's silence. Notifications and responses received do no more"; m is the whole message
 unfoldable pub soundOf : Device → ℕ → List ℕ → Ruled
 soundOf d n m =
-    cond (eqb (pduType m) keepAlive) (beatOf d n (heartbeatOf (drop headerEnd m)))
+    cond (eqb (pduType m) keepAlive) (keptAlive d n (heartbeatOf (drop headerEnd m)))
     (cond (ltb (pduType m) notification) (commandsOf (heardAt d n) n (pduType m) (messageCount m) (drop headerEnd m))
     (ruled (heardAt d n) []))

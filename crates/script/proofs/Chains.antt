@@ -13,11 +13,11 @@ use Rattle.octets.proofs.Digits.{be32-bytes, octets-take, octets-drop}
 use Rattle.device.specs.declared.Device.{Device}
 use Rattle.stream.specs.Machine.{Call, deliver, ask, Held}
 use Rattle.stream.specs.Promise.{Bytes, AllBytes}
-use Rattle.stream.specs.Lent.{flat, counted}
+use Rattle.stream.specs.Lent.{flat, countsOf}
 use Rattle.endpoint.specs.State.{stateOf}
 use Rattle.endpoint.specs.declared.Record.{Record}
-use Rattle.promise.specs.Rules.{Ask, opening, closing, ticking, taking, datagram, callOf}
-use Rattle.promise.specs.Stream.{StreamTheorem, GoodState, machine, gives, runOf}
+use Rattle.promise.specs.Rulebook.{Ask, opening, closing, ticking, taking, datagram, callOf}
+use Rattle.promise.specs.Stream.{StreamTheorem, GoodState, machine, gives, runCalls}
 use Rattle.promise.proofs.Keeps.{stream-theorem}
 use Rattle.script.specs.Script.{numbersOf, stage, outputAfter, sentBy, callBy, firstSize, callIn, behind, callsFrom, callsIn, lastOutput, lastAnswer, endOf, scriptOf}
 use Rattle.script.specs.Chain.{ScriptsRun}
@@ -60,13 +60,13 @@ unfolding callsIn
 pieces-bytes r area s output o = calls-bytes (length s) r area s output o
 
 chained : (d : Device) (h : Held) (s output : List ℕ) → GoodState d h → Octets s
-    → let cs = callsIn (stateOf d (counted h 8)) (flat h 8) s output in
-    scriptOf (stateOf d (counted h 8)) (flat h 8) s output
-    ≡ stage (stateOf (machine d h cs .0 .0) (counted (machine d h cs .0 .1) 8)) (flat (machine d h cs .0 .1) 8)
+    → let cs = callsIn (stateOf d (countsOf h 8)) (flat h 8) s output in
+    scriptOf (stateOf d (countsOf h 8)) (flat h 8) s output
+    ≡ stage (stateOf (machine d h cs .0 .0) (countsOf (machine d h cs .0 .1) 8)) (flat (machine d h cs .0 .1) 8)
     (lastOutput output cs (gives d h cs)) (lastAnswer (numbersOf []) (gives d h cs))
 unfolding scriptOf endOf
 chained d h s output g o =
-    let r = stateOf d (counted h 8) in
+    let r = stateOf d (countsOf h 8) in
     let cs = callsIn r (flat h 8) s output in
     rw (stream-theorem .real d h cs g (pieces-bytes r (flat h 8) s output o)) refl
 

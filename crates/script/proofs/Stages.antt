@@ -16,9 +16,9 @@ use Rattle.endpoint.specs.Deliver.{deliverCall}
 use Rattle.endpoint.specs.Take.{takeCall}
 use Rattle.reset.specs.Datagram.{datagramCall}
 use Rattle.endpoint.specs.declared.Record.{Record}
-use Rattle.promise.specs.Rules.{Ask, opening, closing, ticking, taking, datagram, callOf}
-use Rattle.promise.specs.Stream.{runOf}
-use Rattle.script.specs.Script.{numbersOf, Stage, stage, outputAfter, stageOf, sentBy, callBy, headBytes, firstSize, callIn, behind, callsFrom, callsIn, lastOutput, lastAnswer, endOf, scriptOf}
+use Rattle.promise.specs.Rulebook.{Ask, opening, closing, ticking, taking, datagram, callOf}
+use Rattle.promise.specs.Stream.{runCalls}
+use Rattle.script.specs.Script.{numbersOf, Stage, stage, outputAfter, stageOf, sentBy, callBy, callHead, firstSize, callIn, behind, callsFrom, callsIn, lastOutput, lastAnswer, endOf, scriptOf}
 use Rattle.script.specs.declared.Numbers.{Numbers}
 
 -- ---- each kind of call, from the outcome that its contract gives
@@ -112,14 +112,14 @@ unfoldable pub endFrom : ℕ → Record → List ℕ → List ℕ → List ℕ �
 endFrom k r area s output a = endOf (callsFrom k r area s output) r area output a
 
 end-none : (k : ℕ) (r : Record) (area s output : List ℕ) (a : Numbers) → length s < 6 → endFrom k r area s output a ≡ stage r area output a
-unfolding endFrom endOf callsFrom runOf lastOutput lastAnswer
+unfolding endFrom endOf callsFrom runCalls lastOutput lastAnswer
 end-none zero r area s output a h = refl
 end-none (suc k) r area s output a h = rw (lt-ltb (length s) 6 h) refl
 
 end-more : (k : ℕ) (r : Record) (area s output : List ℕ) (a : Numbers) → 6 ≤ length s
     → endFrom (suc k) r area s output a
     ≡ endFrom k (stageOf (callIn s output) r area output .state) (stageOf (callIn s output) r area output .area) (behind s) (stageOf (callIn s output) r area output .output) (stageOf (callIn s output) r area output .answer)
-unfolding endFrom endOf callsFrom runOf lastOutput lastAnswer stageOf
+unfolding endFrom endOf callsFrom runCalls lastOutput lastAnswer stageOf
 end-more k r area s output a h = rw (le-ltb (length s) 6 h) refl
 
 pub record Playing (r₀ : Record) (area₀ script output₀ : List ℕ) (area output : List ℕ) (r : Record) (a : Numbers) (t : List ℕ) : Type 0 where

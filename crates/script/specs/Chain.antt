@@ -7,10 +7,10 @@ use Rattle.octets.specs.Numbers.{bytes32, Octets}
 use Rattle.device.specs.declared.Device.{Device}
 use Rattle.stream.specs.Machine.{Held, deliver, ask}
 use Rattle.stream.specs.Promise.{AllBytes}
-use Rattle.stream.specs.Lent.{flat, counted}
+use Rattle.stream.specs.Lent.{flat, countsOf}
 use Rattle.endpoint.specs.State.{stateOf}
 use Rattle.endpoint.specs.declared.Record.{Record}
-use Rattle.promise.specs.Rules.{datagram}
+use Rattle.promise.specs.Rulebook.{datagram}
 use Rattle.promise.specs.Stream.{GoodState, machine, gives}
 use Rattle.script.specs.Script.{numbersOf, stage, callBy, callIn, behind, callsIn, lastOutput, lastAnswer, scriptOf}
 
@@ -18,9 +18,9 @@ pub record ScriptsRun : Type 0 where
   -- what the code leaves of a script, from a state that keeps the rules: the device of the rules over whole messages, the undecided
   -- bytes, and the last answer and output that the rules give
   pub chain : (d : Device) (h : Held) (s output : List ℕ) → GoodState d h → Octets s
-      → let cs = callsIn (stateOf d (counted h 8)) (flat h 8) s output in
-      scriptOf (stateOf d (counted h 8)) (flat h 8) s output
-      ≡ stage (stateOf (machine d h cs .0 .0) (counted (machine d h cs .0 .1) 8)) (flat (machine d h cs .0 .1) 8)
+      → let cs = callsIn (stateOf d (countsOf h 8)) (flat h 8) s output in
+      scriptOf (stateOf d (countsOf h 8)) (flat h 8) s output
+      ≡ stage (stateOf (machine d h cs .0 .0) (countsOf (machine d h cs .0 .1) 8)) (flat (machine d h cs .0 .1) 8)
       (lastOutput output cs (gives d h cs)) (lastAnswer (numbersOf []) (gives d h cs))
   -- those calls' pieces are bytes, so all that the stream theorem says of calls it says of them
   pub pieces : (r : Record) (area s output : List ℕ) → Octets s → AllBytes (callsIn r area s output)

@@ -8,8 +8,8 @@ use Rattle.octets.specs.Numbers.{be32At}
 use Rattle.stream.specs.Machine.{Call, deliver, ask}
 use Rattle.endpoint.specs.Numbers.{Outcome}
 use Rattle.endpoint.specs.declared.Record.{Record}
-use Rattle.promise.specs.Rules.{Ask, opening, closing, ticking, taking, datagram, callOf}
-use Rattle.promise.specs.Stream.{runOf}
+use Rattle.promise.specs.Rulebook.{Ask, opening, closing, ticking, taking, datagram, callOf}
+use Rattle.promise.specs.Stream.{runCalls}
 use Rattle.script.specs.declared.Numbers.{Numbers}
 
 -- an answer's numbers, zeros behind them
@@ -55,18 +55,18 @@ callBy kind n value piece output =
     (cond (eqb kind 3) (ask (taking output))
     (sentBy kind n piece output))))
 
-abbrev pub headBytes : ℕ
-headBytes = 6
+abbrev pub callHead : ℕ
+callHead = 6
 
 -- how many bytes the first call of a script has: a piece is as long as its number says, or as what is left
 unfoldable pub firstSize : List ℕ → ℕ
 firstSize s =
-    cond (leb (getD s 0 0) 3) headBytes
-    (cond (ltb (length s) (headBytes + be32At s 2)) (length s) (headBytes + be32At s 2))
+    cond (leb (getD s 0 0) 3) callHead
+    (cond (ltb (length s) (callHead + be32At s 2)) (length s) (callHead + be32At s 2))
 
 -- the first call of a script, lent this output
 unfoldable pub callIn : List ℕ → List ℕ → Call Ask (List ℕ)
-callIn s output = callBy (getD s 0 0) (getD s 1 0) (be32At s 2) (take (firstSize s - headBytes) (drop headBytes s)) output
+callIn s output = callBy (getD s 0 0) (getD s 1 0) (be32At s 2) (take (firstSize s - callHead) (drop callHead s)) output
 
 -- the script behind its first call
 unfoldable pub behind : List ℕ → List ℕ
@@ -76,7 +76,7 @@ behind s = drop (firstSize s) s
 unfoldable pub callsFrom : ℕ → Record → List ℕ → List ℕ → List ℕ → List (Call Ask (List ℕ))
 callsFrom zero r area s output = []
 callsFrom (suc k) r area s output =
-    cond (ltb (length s) headBytes) []
+    cond (ltb (length s) callHead) []
     (callIn s output ∷ callsFrom k (callOf r area (callIn s output) .state) (callOf r area (callIn s output) .area) (behind s)
     (outputAfter (callIn s output) (callOf r area (callIn s output)) output))
 
@@ -97,7 +97,7 @@ lastAnswer a (o ∷ os) = lastAnswer (numbersOf (o .answer)) os
 -- how a run of these calls ends
 unfoldable pub endOf : List (Call Ask (List ℕ)) → Record → List ℕ → List ℕ → Numbers → Stage
 endOf cs r area output a =
-    stage (runOf r area cs .0 .0) (runOf r area cs .0 .1) (lastOutput output cs (runOf r area cs .1)) (lastAnswer a (runOf r area cs .1))
+    stage (runCalls r area cs .0 .0) (runCalls r area cs .0 .1) (lastOutput output cs (runCalls r area cs .1)) (lastAnswer a (runCalls r area cs .1))
 
 -- THE SCRIPT: the run of its calls
 unfoldable pub scriptOf : Record → List ℕ → List ℕ → List ℕ → Stage

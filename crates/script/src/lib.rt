@@ -13,7 +13,7 @@ ghost use lib.ListN.{length};
 ghost use Rattle.endpoint.specs.Numbers.{openingNumbers, closingNumbers, tickingNumbers, deliveryNumbers, takingNumbers};
 ghost use Rattle.reset.specs.Numbers.{resettingNumbers};
 ghost use Rattle.stream.specs.Machine.{deliver, ask};
-ghost use Rattle.promise.specs.Rules.{opening, closing, ticking, taking, datagram};
+ghost use Rattle.promise.specs.Rulebook.{opening, closing, ticking, taking, datagram};
 ghost use Rattle.script.specs.Chain.{ScriptsRun};
 ghost use Rattle.script.specs.Script.{numbersOf, stage, stageOf, sentBy, callBy, callIn, firstSize, scriptOf};
 

@@ -9,7 +9,7 @@ use lib.ListN.{length, replicate}
 use lib.Seq.{sets, length-sets}
 use Rattle.subscription.specs.State.{isMute}
 use Rattle.objects.specs.Methods.{deviceManager, classMethod, lockableMethod, getMethod}
-use Rattle.objects.specs.Answers.{replyRoom, classOf, identificationOf, replyOf, failedOf, toldOf}
+use Rattle.objects.specs.Answers.{replyRoom, classOf, identificationOf, replyOf, failedOf, answerWith}
 use Rattle.objects.specs.declared.Answer.{Answer}
 use Rattle.device.specs.Run.{muteAt, statusOf, doneOf, answerOf, ranBy, runOf}
 use Rattle.device.specs.declared.Device.{Device}
@@ -24,8 +24,8 @@ failed-fits : (status : ℕ) → Fitting (failedOf status)
 unfolding failedOf
 failed-fits status = record { low = omega arith; room = refl }
 
-told-fits : (bytes : List ℕ) → length bytes ≤ 12 → Fitting (toldOf bytes)
-unfolding toldOf
+told-fits : (bytes : List ℕ) → length bytes ≤ 12 → Fitting (answerWith bytes)
+unfolding answerWith
 told-fits bytes h = record { low = h; room = length-sets (replicate replyRoom 0) 0 bytes }
 
 class-fits : (target : ℕ) → length (identificationOf (classOf target)) ≤ 12
@@ -53,7 +53,7 @@ run-fits d n target m count part = go (eqb (statusOf d n target m count part) 0)
   where
     go : (b : Bool)
         → Fitting
-        (cond {A = Ran} b (record { device = doneOf d n target m part; answer = toldOf (replyOf target m (muteAt d target)) })
+        (cond {A = Ran} b (record { device = doneOf d n target m part; answer = answerWith (replyOf target m (muteAt d target)) })
         (record { device = d; answer = failedOf (statusOf d n target m count part) }) .answer)
     go true = told-fits (replyOf target m (muteAt d target)) (reply-fits target m (muteAt d target))
     go false = failed-fits (statusOf d n target m count part)

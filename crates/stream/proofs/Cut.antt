@@ -9,8 +9,8 @@ use lib.Seq.{take-append-add, take-suc, take-take, take-all, drop-cons, take-nil
 use lib.Dec.{eqb}
 use Rattle.frame.specs.Decide.{decide, taken, settled}
 use Rattle.frame.proofs.Ways.{deciding}
-use Rattle.stream.specs.Machine.{Call, deliver, ask, Whole, message, asked, Answer, more, refused, done, Held, put, only, whole, delivered, step, run, answered, answers}
-use Rattle.stream.specs.Cut.{singles, drip, drips, outcome}
+use Rattle.stream.specs.Machine.{Call, deliver, ask, Whole, handed, asked, Answer, more, denied, gave, Held, put, only, whole, delivered, step, run, answered, answers}
+use Rattle.stream.specs.Cut.{singles, drip, drips, comesTo}
 use Rattle.stream.specs.Promise.{AllBytes, Laws, Good}
 use Rattle.frame.proofs.Bytes.{part-waits, before-waits, beyond}
 use Rattle.stream.proofs.Stream.{put-elim, step-good}
@@ -34,13 +34,13 @@ module _ {R Out Ask Room : Type 0} (rule : R → Whole Ask Room → R × Out) (o
     then x f = let y = f (x .0 .0) (x .0 .1) in (y .0, x .1 ++ y .1)
 
     pub outcome-cons : (r : R) (h : Held) (c : Call Ask Room) (cs : List (Call Ask Room))
-        → outcome rule open? admit r h (c ∷ cs) ≡ then ((step rule open? admit r h c) .0, answered ((step rule open? admit r h c) .1)) (λ r h. outcome rule open? admit r h cs)
-    unfolding outcome run answers
+        → comesTo rule open? admit r h (c ∷ cs) ≡ then ((step rule open? admit r h c) .0, answered ((step rule open? admit r h c) .1)) (λ r h. comesTo rule open? admit r h cs)
+    unfolding comesTo run answers
     outcome-cons r h c cs = refl
 
     outcome-append : (r : R) (h : Held) (a b : List (Call Ask Room))
-        → outcome rule open? admit r h (a ++ b) ≡ then (outcome rule open? admit r h a) (λ r h. outcome rule open? admit r h b)
-    unfolding outcome run answers
+        → comesTo rule open? admit r h (a ++ b) ≡ then (comesTo rule open? admit r h a) (λ r h. comesTo rule open? admit r h b)
+    unfolding comesTo run answers
     outcome-append r h [] b = refl
     outcome-append r h (c ∷ a) b =
         let s = step rule open? admit r h c in
@@ -54,22 +54,22 @@ module _ {R Out Ask Room : Type 0} (rule : R → Whole Ask Room → R × Out) (o
 
     step-decides : (r : R) (h : Held) (c : ℕ) (p : List ℕ) (x : Room) → admit r c x ≡ 0 → settled (decide (h c ++ p)) ≡ true
         → step rule open? admit r h (deliver c p x)
-        ≡ whole rule open? admit r (put h c []) (message c (take (taken (decide (h c ++ p))) (h c ++ p)) x) (taken (decide (h c ++ p)) - length (h c))
+        ≡ whole rule open? admit r (put h c []) (handed c (take (taken (decide (h c ++ p))) (h c ++ p)) x) (taken (decide (h c ++ p)) - length (h c))
     unfolding step delivered
     step-decides r h c p x o e = rw (o, e)
 
     -- one call alone
     pub outcome-one : (r : R) (h : Held) (c : Call Ask Room)
-        → outcome rule open? admit r h (c ∷ []) ≡ ((step rule open? admit r h c) .0, answered ((step rule open? admit r h c) .1))
-    unfolding outcome run answers
+        → comesTo rule open? admit r h (c ∷ []) ≡ ((step rule open? admit r h c) .0, answered ((step rule open? admit r h c) .1))
+    unfolding comesTo run answers
     outcome-one r h c = rw append-nil
 
     module _ (spare : Room) (spared : (r : R) (c : ℕ) (x : Room) → admit r c x ≡ 0 → admit r c spare ≡ 0) where
       -- undecided bytes, one at a time, are held
       drip-waits : (r : R) (c : ℕ) (q : List ℕ) (h : Held) → admit r c spare ≡ 0 → settled (decide (h c ++ q)) ≡ false
-          → outcome rule open? admit r h (singles spare c q) ≡ ((r, put h c (h c ++ q)), [])
+          → comesTo rule open? admit r h (singles spare c q) ≡ ((r, put h c (h c ++ q)), [])
       unfolding singles answered
-      drip-waits r c [] h o u = unfold outcome run answers in (rw (append-nil, put-self h c))
+      drip-waits r c [] h o u = unfold comesTo run answers in (rw (append-nil, put-self h c))
       drip-waits r c (b ∷ q) h o u =
           let a : h c ++ (b ∷ []) ++ q ≡ h c ++ b ∷ q = append-assoc (h c) (b ∷ []) q in
           let v : settled (decide (h c ++ (b ∷ []) ++ q)) ≡ false = rw a u in
@@ -80,8 +80,8 @@ module _ {R Out Ask Room : Type 0} (rule : R → Whole Ask Room → R × Out) (o
       drip-last : (r : R) (c : ℕ) (q : List ℕ) (b : ℕ) (x : Room) (h : Held) (n : ℕ) → admit r c x ≡ 0
           → settled (decide (h c ++ q)) ≡ false → settled (decide (h c ++ q ++ (b ∷ []))) ≡ true
           → let m = h c ++ q ++ (b ∷ []) in
-          let s = whole rule open? admit r (put h c []) (message c (take (taken (decide m)) m) x) n in
-          outcome rule open? admit r h (singles spare c q ++ (deliver c (b ∷ []) x ∷ [])) ≡ (s .0, answered (s .1))
+          let s = whole rule open? admit r (put h c []) (handed c (take (taken (decide m)) m) x) n in
+          comesTo rule open? admit r h (singles spare c q ++ (deliver c (b ∷ []) x ∷ [])) ≡ (s .0, answered (s .1))
       unfolding whole answered
       drip-last r c q b x h n o u e =
           rw (
@@ -97,9 +97,9 @@ module _ {R Out Ask Room : Type 0} (rule : R → Whole Ask Room → R × Out) (o
       drip-delivery : (r : R) (h : Held) (c : ℕ) (p : List ℕ) (x : Room) → settled (decide (h c)) ≡ false
           → (q : ℕ) (b : Bool) → admit r c x ≡ q → settled (decide (h c ++ p)) ≡ b
           → let s = delivered rule open? admit q b r h c p x in
-          outcome rule open? admit r h (drip spare (deliver c p x) (s .1)) ≡ (s .0, answered (s .1))
+          comesTo rule open? admit r h (drip spare (deliver c p x) (s .1)) ≡ (s .0, answered (s .1))
       unfolding delivered drip answered whole
-      drip-delivery r h c p x w (suc q) b o e = unfold outcome run answers in refl
+      drip-delivery r h c p x w (suc q) b o e = unfold comesTo run answers in refl
       drip-delivery r h c p x w zero false o e = drip-waits r c p h (spared r c x o) e
       drip-delivery r h c p x w zero true o e =
           let k = taken (decide (h c ++ p)) in
@@ -121,7 +121,7 @@ module _ {R Out Ask Room : Type 0} (rule : R → Whole Ask Room → R × Out) (o
           rw (last, ← g) (drip-last r c (take j p) (getD p j 0) x h (k - length (h c)) o u (ap settled d ∙ e))
 
       drip-one : (r : R) (h : Held) (c : Call Ask Room) → ((n : ℕ) → settled (decide (h n)) ≡ false)
-          → let s = step rule open? admit r h c in outcome rule open? admit r h (drip spare c (s .1)) ≡ (s .0, answered (s .1))
+          → let s = step rule open? admit r h c in comesTo rule open? admit r h (drip spare c (s .1)) ≡ (s .0, answered (s .1))
       unfolding step
       drip-one r h (deliver c p x) w = drip-delivery r h c p x (w c) (admit r c x) (settled (decide (h c ++ p))) refl refl
       drip-one r h (ask a) w = unfold drip in outcome-one r h (ask a)
@@ -129,7 +129,7 @@ module _ {R Out Ask Room : Type 0} (rule : R → Whole Ask Room → R × Out) (o
       module _ (shut : Whole Ask Room → Out → ℕ → Bool) (Fine : R → Type 0) (laws : Laws rule open? admit shut Fine) where
         -- THE CUTTING THEOREM
         pub uncut : (r : R) (h : Held) (cs : List (Call Ask Room)) → AllBytes cs → Good rule open? admit shut Fine r h
-            → outcome rule open? admit r h (drips spare ((run rule open? admit r h cs) .1)) ≡ outcome rule open? admit r h cs
+            → comesTo rule open? admit r h (drips spare ((run rule open? admit r h cs) .1)) ≡ comesTo rule open? admit r h cs
         unfolding run drips AllBytes
         uncut r h [] b good = refl
         uncut r h (c ∷ cs) b good =
@@ -144,5 +144,5 @@ module _ {R Out Ask Room : Type 0} (rule : R → Whole Ask Room → R × Out) (o
         -- two runs that took the same bytes at the same places come to the same
         pub recut : (r : R) (h : Held) (cs ds : List (Call Ask Room)) → AllBytes cs → AllBytes ds → Good rule open? admit shut Fine r h
             → drips spare ((run rule open? admit r h cs) .1) ≡ drips spare ((run rule open? admit r h ds) .1)
-            → outcome rule open? admit r h cs ≡ outcome rule open? admit r h ds
-        recut r h cs ds b c good e = sym (uncut r h cs b good) ∙ ap (outcome rule open? admit r h) e ∙ uncut r h ds c good
+            → comesTo rule open? admit r h cs ≡ comesTo rule open? admit r h ds
+        recut r h cs ds b c good e = sym (uncut r h cs b good) ∙ ap (comesTo rule open? admit r h) e ∙ uncut r h ds c good

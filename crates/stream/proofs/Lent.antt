@@ -18,7 +18,7 @@ use Rattle.octets.proofs.Scans.{drop-zeros, length-zeros, zeros-append, all-zer
 use Rattle.frame.specs.Decide.{decide, settled}
 use Rattle.area.specs.Area.{partBytes, areaBytes, partAt, partSound, partsSound, areaSound, undecidedOf, partCleared, clearedFrom, closedCleared, heldKept}
 use Rattle.stream.specs.Machine.{Held, none-held, put, only}
-use Rattle.stream.specs.Lent.{partOf, flat, counted, livesOf}
+use Rattle.stream.specs.Lent.{partHolding, flat, countsOf, livesOf}
 use Rattle.stream.proofs.Stream.{put-elim}
 
 -- ---- a put, at its place and at another
@@ -33,38 +33,38 @@ put-other h c x n d = rw (ne-eqb n c d)
 
 -- ---- counts
 
-counted-ext : (h k : Held) (n : ℕ) → ((m : ℕ) → m < n → h m ≡ k m) → counted h n ≡ counted k n
-unfolding counted
+counted-ext : (h k : Held) (n : ℕ) → ((m : ℕ) → m < n → h m ≡ k m) → countsOf h n ≡ countsOf k n
+unfolding countsOf
 counted-ext h k zero e = refl
 counted-ext h k (suc n) e = rw (counted-ext h k n (λ m l. e m (omega arith)), e n (omega arith))
 
-pub length-counted : (h : Held) (n : ℕ) → length (counted h n) ≡ n
-unfolding counted
+pub length-counted : (h : Held) (n : ℕ) → length (countsOf h n) ≡ n
+unfolding countsOf
 length-counted h zero = refl
 length-counted h (suc n) = rw (length-append, length-counted h n) (omega arith)
 
-pub getD-counted : (h : Held) (n c : ℕ) → c < n → getD (counted h n) c 0 ≡ length (h c)
-unfolding counted
+pub getD-counted : (h : Held) (n c : ℕ) → c < n → getD (countsOf h n) c 0 ≡ length (h c)
+unfolding countsOf
 getD-counted h zero c l = absurd (not-suc-le-zero l)
 getD-counted h (suc n) c l = go (ℕ-discrete c n) (getD-counted h n c)
   where
-    go : Dec (c ≡ n) → (c < n → getD (counted h n) c 0 ≡ length (h c)) → getD (counted h n ++ (length (h n) ∷ [])) c 0 ≡ length (h c)
-    go (yes e) ih = rw e (getD-at (counted h n) (length (h n)) [] 0 n (length-counted h n))
-    go (no d) ih = List·getD-append (counted h n) (length (h n) ∷ []) 0 c (rw (length-counted h n) (omega arith)) ∙ ih (omega arith)
+    go : Dec (c ≡ n) → (c < n → getD (countsOf h n) c 0 ≡ length (h c)) → getD (countsOf h n ++ (length (h n) ∷ [])) c 0 ≡ length (h c)
+    go (yes e) ih = rw e (getD-at (countsOf h n) (length (h n)) [] 0 n (length-counted h n))
+    go (no d) ih = List·getD-append (countsOf h n) (length (h n) ∷ []) 0 c (rw (length-counted h n) (omega arith)) ∙ ih (omega arith)
 
-pub set-counted : (h : Held) (n c : ℕ) (x : List ℕ) → c < n → set (counted h n) c (length x) ≡ counted (put h c x) n
-unfolding counted
+pub set-counted : (h : Held) (n c : ℕ) (x : List ℕ) → c < n → set (countsOf h n) c (length x) ≡ countsOf (put h c x) n
+unfolding countsOf
 set-counted h zero c x l = absurd (not-suc-le-zero l)
 set-counted h (suc n) c x l = go (ℕ-discrete n c) (set-counted h n c x)
   where
-    go : Dec (n ≡ c) → (c < n → set (counted h n) c (length x) ≡ counted (put h c x) n)
-        → set (counted h n ++ (length (h n) ∷ [])) c (length x) ≡ counted (put h c x) n ++ (length (put h c x n) ∷ [])
+    go : Dec (n ≡ c) → (c < n → set (countsOf h n) c (length x) ≡ countsOf (put h c x) n)
+        → set (countsOf h n ++ (length (h n) ∷ [])) c (length x) ≡ countsOf (put h c x) n ++ (length (put h c x n) ∷ [])
     go (yes e) ih =
         rw (← e, put-same h n x, counted-ext (put h n x) h n (λ m k. put-other h n x m (omega arith)))
-        (set-at (counted h n) (length (h n)) [] (length x) n (length-counted h n))
+        (set-at (countsOf h n) (length (h n)) [] (length x) n (length-counted h n))
     go (no d) ih =
         rw (put-other h c x n d, ← (ih (omega arith)))
-        (set-append-left (counted h n) (length (h n) ∷ []) c (length x) (rw (length-counted h n) (omega arith)))
+        (set-append-left (countsOf h n) (length (h n) ∷ []) c (length x) (rw (length-counted h n) (omega arith)))
 
 pub length-lives-of : (t : ℕ → Bool) (n : ℕ) → length (livesOf t n) ≡ n
 unfolding livesOf
@@ -88,12 +88,12 @@ held-snoc [] b (x ∷ ks) k e = absurd (omega arith)
 held-snoc (x ∷ bs) b [] k e = absurd (omega arith)
 held-snoc (x ∷ bs) b (y ∷ ks) k e = ap (λ (l : List ℕ). cond x y 0 ∷ l) (held-snoc bs b ks k (omega arith))
 
-pub held-counted : (t : ℕ → Bool) (h : Held) (n : ℕ) → heldKept (livesOf t n) (counted h n) ≡ counted (only t h) n
-unfolding livesOf counted heldKept only
+pub held-counted : (t : ℕ → Bool) (h : Held) (n : ℕ) → heldKept (livesOf t n) (countsOf h n) ≡ countsOf (only t h) n
+unfolding livesOf countsOf heldKept only
 held-counted t h zero = refl
 held-counted t h (suc n) =
-    held-snoc (livesOf t n) (t n) (counted h n) (length (h n)) (length-lives-of t n ∙ sym (length-counted h n))
-    ∙ rw (held-counted t h n) (ap (λ (k : ℕ). counted (only t h) n ++ (k ∷ [])) (len (t n)))
+    held-snoc (livesOf t n) (t n) (countsOf h n) (length (h n)) (length-lives-of t n ∙ sym (length-counted h n))
+    ∙ rw (held-counted t h n) (ap (λ (k : ℕ). countsOf (only t h) n ++ (k ∷ [])) (len (t n)))
   where
     len : (b : Bool) → cond b (length (h n)) 0 ≡ length (cond b (h n) [])
     len true = refl
@@ -105,8 +105,8 @@ held-counted t h (suc n) =
 abbrev pub Small : Held → Type 0
 Small h = (n : ℕ) → length (h n) ≤ partBytes
 
-pub length-part : (x : List ℕ) → length x ≤ partBytes → length (partOf x) ≡ partBytes
-unfolding partOf
+pub length-part : (x : List ℕ) → length x ≤ partBytes → length (partHolding x) ≡ partBytes
+unfolding partHolding
 length-part x l = rw (length-append, length-zeros) (omega arith)
 
 flat-ext : (h k : Held) (n : ℕ) → ((m : ℕ) → m < n → h m ≡ k m) → flat h n ≡ flat k n
@@ -117,48 +117,48 @@ flat-ext h k (suc n) e = rw (flat-ext h k n (λ m l. e m (omega arith)), e n (om
 pub length-flat : (h : Held) (n : ℕ) → Small h → length (flat h n) ≡ partAt n
 unfolding flat
 length-flat h zero s = refl
-length-flat h (suc n) s = length-append (flat h n) (partOf (h n)) ∙ omega (arith, length-flat h n s, length-part (h n) (s n))
+length-flat h (suc n) s = length-append (flat h n) (partHolding (h n)) ∙ omega (arith, length-flat h n s, length-part (h n) (s n))
 
 -- connection c's part
-pub part-flat : (h : Held) (n c : ℕ) → Small h → c < n → take partBytes (drop (partAt c) (flat h n)) ≡ partOf (h c)
+pub part-flat : (h : Held) (n c : ℕ) → Small h → c < n → take partBytes (drop (partAt c) (flat h n)) ≡ partHolding (h c)
 unfolding flat
 part-flat h zero c s l = absurd (not-suc-le-zero l)
 part-flat h (suc n) c s l = go (ℕ-discrete c n) (part-flat h n c s)
   where
-    go : Dec (c ≡ n) → (c < n → take partBytes (drop (partAt c) (flat h n)) ≡ partOf (h c))
-        → take partBytes (drop (partAt c) (flat h n ++ partOf (h n))) ≡ partOf (h c)
+    go : Dec (c ≡ n) → (c < n → take partBytes (drop (partAt c) (flat h n)) ≡ partHolding (h c))
+        → take partBytes (drop (partAt c) (flat h n ++ partHolding (h n))) ≡ partHolding (h c)
     go (yes e) ih =
-        rw (e, drop-at (flat h n) (partOf (h n)) (partAt n) (length-flat h n s)) (take-all partBytes (partOf (h n)) (omega (arith, length-part (h n) (s n))))
+        rw (e, drop-at (flat h n) (partHolding (h n)) (partAt n) (length-flat h n s)) (take-all partBytes (partHolding (h n)) (omega (arith, length-part (h n) (s n))))
     go (no d) ih =
         let f = length-flat h n s in
         let k : partAt c ≤ length (flat h n) = omega arith in
-        rw (drop-append-le (partAt c) (flat h n) (partOf (h n)) k)
-        (take-append-le partBytes (drop (partAt c) (flat h n)) (partOf (h n)) (rw length-drop (omega arith)) ∙ ih (omega arith))
+        rw (drop-append-le (partAt c) (flat h n) (partHolding (h n)) k)
+        (take-append-le partBytes (drop (partAt c) (flat h n)) (partHolding (h n)) (rw length-drop (omega arith)) ∙ ih (omega arith))
 
 -- the undecided bytes of connection c
 pub undecided-flat : (h : Held) (n c : ℕ) → Small h → c < n → undecidedOf (flat h n) c (length (h c)) ≡ h c
-unfolding undecidedOf partOf
+unfolding undecidedOf partHolding
 undecided-flat h n c s l =
     let x = drop (partAt c) (flat h n) in
     sym (take-take (length (h c)) partBytes x (s c)) ∙ ap (take (length (h c))) (part-flat h n c s l) ∙ take-append-seam (h c) (zeros (partBytes - length (h c)))
 
 -- another part in the place of connection c's
 write-flat : (h : Held) (n c : ℕ) (x : List ℕ) → Small h → c < n
-    → take (partAt c) (flat h n) ++ partOf x ++ drop (partAt c + partBytes) (flat h n) ≡ flat (put h c x) n
+    → take (partAt c) (flat h n) ++ partHolding x ++ drop (partAt c + partBytes) (flat h n) ≡ flat (put h c x) n
 unfolding flat
 write-flat h zero c x s l = absurd (not-suc-le-zero l)
 write-flat h (suc n) c x s l = go (ℕ-discrete n c) (write-flat h n c x s)
   where
-    go : Dec (n ≡ c) → (c < n → take (partAt c) (flat h n) ++ partOf x ++ drop (partAt c + partBytes) (flat h n) ≡ flat (put h c x) n)
-        → take (partAt c) (flat h n ++ partOf (h n)) ++ partOf x ++ drop (partAt c + partBytes) (flat h n ++ partOf (h n))
-        ≡ flat (put h c x) n ++ partOf (put h c x n)
+    go : Dec (n ≡ c) → (c < n → take (partAt c) (flat h n) ++ partHolding x ++ drop (partAt c + partBytes) (flat h n) ≡ flat (put h c x) n)
+        → take (partAt c) (flat h n ++ partHolding (h n)) ++ partHolding x ++ drop (partAt c + partBytes) (flat h n ++ partHolding (h n))
+        ≡ flat (put h c x) n ++ partHolding (put h c x n)
     go (yes e) ih =
         let f = length-flat h n s in
-        let z : length (flat h n ++ partOf (h n)) ≤ partAt n + partBytes = rw (length-append, f, length-part (h n) (s n)) (omega arith) in
+        let z : length (flat h n ++ partHolding (h n)) ≤ partAt n + partBytes = rw (length-append, f, length-part (h n) (s n)) (omega arith) in
         rw (
           ← e,
-          take-at (flat h n) (partOf (h n)) (partAt n) f,
-          drop-of-length-le (flat h n ++ partOf (h n)) z,
+          take-at (flat h n) (partHolding (h n)) (partAt n) f,
+          drop-of-length-le (flat h n ++ partHolding (h n)) z,
           append-nil,
           put-same h n x,
           flat-ext (put h n x) h n (λ m k. put-other h n x m (omega arith)),
@@ -167,16 +167,16 @@ write-flat h (suc n) c x s l = go (ℕ-discrete n c) (write-flat h n c x s)
         let f = length-flat h n s in
         let m : partAt c + partBytes ≤ length (flat h n) = omega arith in
         rw (
-          take-append-le (partAt c) (flat h n) (partOf (h n)) (omega arith),
-          drop-append-le (partAt c + partBytes) (flat h n) (partOf (h n)) m,
+          take-append-le (partAt c) (flat h n) (partHolding (h n)) (omega arith),
+          drop-append-le (partAt c + partBytes) (flat h n) (partHolding (h n)) m,
           put-other h c x n d,
           ← (ih (omega arith)),
         )
-        (sym (append-assoc (take (partAt c) (flat h n) ++ partOf x) (drop (partAt c + partBytes) (flat h n)) (partOf (h n))))
+        (sym (append-assoc (take (partAt c) (flat h n) ++ partHolding x) (drop (partAt c + partBytes) (flat h n)) (partHolding (h n))))
 
 -- a part cleared
 pub clear-flat : (h : Held) (n c : ℕ) → Small h → c < n → partCleared (flat h n) c ≡ flat (put h c []) n
-unfolding partCleared partOf
+unfolding partCleared partHolding
 clear-flat h n c s l =
     let a = flat h n in
     let f : partAt c + length (zeros partBytes) ≤ length a = rw (length-zeros partBytes) (omega (arith, length-flat h n s)) in
@@ -185,7 +185,7 @@ clear-flat h n c s l =
 -- a piece behind the bytes of connection c
 pub put-flat : (h : Held) (n c : ℕ) (p : List ℕ) → Small h → c < n → length (h c ++ p) ≤ partBytes
     → sets (flat h n) (partAt c + length (h c)) p ≡ flat (put h c (h c ++ p)) n
-unfolding partOf undecidedOf
+unfolding partHolding undecidedOf
 put-flat h n c p s l f =
     let a = flat h n in
     let x = h c in
@@ -202,7 +202,7 @@ put-flat h n c p s l f =
     sym (drop-drop (length p) (partAt c + k) a) ∙ ap (drop (length p)) (sym (drop-drop k (partAt c) a) ∙ ap (drop k) rest ∙ drop-append-seam x (z ++ r))
     ∙ drop-append-le (length p) z r m
     ∙ ap (λ (y : List ℕ). y ++ r) (drop-zeros (length p) (partBytes - k) ∙ ap zeros (rw length-append (omega arith))) in
-    let mid : take (partAt c + k) a ++ p ++ drop (partAt c + k + length p) a ≡ take (partAt c) a ++ partOf (x ++ p) ++ r =
+    let mid : take (partAt c + k) a ++ p ++ drop (partAt c + k + length p) a ≡ take (partAt c) a ++ partHolding (x ++ p) ++ r =
     rw (front, back) (regroup (take (partAt c) a) x p (zeros (partBytes - length (x ++ p))) r) in
     sets-eq p a (partAt c + k) w ∙ mid ∙ write-flat h n c (x ++ p) s l
   where
@@ -269,21 +269,21 @@ closed-flat t h n s = clears-flat t h n n s (omega arith) ∙ flat-ext (cleared 
 
 -- an area of zeros, and counts of zero, hold nothing
 pub flat-none : (n : ℕ) → flat none-held n ≡ zeros (partAt n)
-unfolding flat partOf
+unfolding flat partHolding
 flat-none zero = unfold zeros in refl
 flat-none (suc n) =
     let e : partAt n + partBytes ≡ partAt (suc n) = omega arith in
     rw (flat-none n, zeros-append) (ap zeros e)
 
-pub counted-none : (n : ℕ) → counted none-held n ≡ zeros n
-unfolding counted zeros
+pub counted-none : (n : ℕ) → countsOf none-held n ≡ zeros n
+unfolding countsOf zeros
 counted-none zero = refl
 counted-none (suc n) = rw (counted-none n) (zeros-append n 1 ∙ ap (λ (k : ℕ). replicate k 0) (add-one n))
 
 -- ---- row 2 does not apply
 
-part-sound : (x : List ℕ) → settled (decide x) ≡ false → partSound (length x) (partOf x) ≡ true
-unfolding partSound partOf
+part-sound : (x : List ℕ) → settled (decide x) ≡ false → partSound (length x) (partHolding x) ≡ true
+unfolding partSound partHolding
 part-sound x w =
     let z = zeros (partBytes - length x) in
     rw (take-append-seam x z, drop-append-seam x z, w, all-zero-zeros (partBytes - length x))
@@ -299,11 +299,11 @@ parts-sound (k ∷ held) a f =
     let e : partBytes + partAt c ≡ partAt (suc c) = omega arith in
     rw (drop-drop (partAt c) partBytes a, e) (f (suc c) (omega arith))))
 
-pub area-flat : (h : Held) → Small h → ((n : ℕ) → settled (decide (h n)) ≡ false) → areaSound (counted h 8) (flat h 8) ≡ true
+pub area-flat : (h : Held) → Small h → ((n : ℕ) → settled (decide (h n)) ≡ false) → areaSound (countsOf h 8) (flat h 8) ≡ true
 unfolding areaSound
 area-flat h s w =
     rw (eq-eqb (length (flat h 8)) areaBytes (length-flat h 8 s))
-    (parts-sound (counted h 8) (flat h 8)
+    (parts-sound (countsOf h 8) (flat h 8)
     (λ c l.
     let m : c < 8 = omega (arith, length-counted h 8) in
     rw (getD-counted h 8 c m, part-flat h 8 c s m) (part-sound (h c) (w c))))

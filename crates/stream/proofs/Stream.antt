@@ -9,7 +9,7 @@ use lib.Dec.{T, eqb, eqb→eq}
 use borrow.Author.Tests.{eqb-true}
 use Rattle.frame.specs.Decide.{decide, taken, settled}
 use Rattle.frame.proofs.Ways.{deciding}
-use Rattle.stream.specs.Machine.{Call, deliver, ask, Whole, message, asked, Answer, more, refused, done, Held, put, only, rules, whole, delivered, step, run, left, heard, glue, answered, answers}
+use Rattle.stream.specs.Machine.{Call, deliver, ask, Whole, handed, asked, Answer, more, denied, gave, Held, put, only, rules, whole, delivered, step, run, left, heard, glue, answered, answers}
 use Rattle.stream.specs.Promise.{Decides, Bytes, AllBytes, Apt, Apts, Right, Told, Laws, Good, Streamed, Isolating, Closure}
 use Rattle.frame.proofs.Bytes.{nil-waits, glued}
 use Rattle.octets.specs.Numbers.{Octets}
@@ -107,8 +107,8 @@ module _ {R Out Ask Room : Type 0} (rule : R → Whole Ask Room → R × Out) wh
       one-delivery r h c p x op good zero true o e =
           rw (glued (h c) p (good .waiting c) e)
           record {
-            good = whole-good r (put h c []) (message c m x) (emptied r h c good) a;
-            held = whole-left r (put h c []) (message c m x) (emptied r h c good) a;
+            good = whole-good r (put h c []) (handed c m x) (emptied r h c good) a;
+            held = whole-left r (put h c []) (handed c m x) (emptied r h c good) a;
             same = refl;
             apt = (a, tt);
             right = (o, fits, a .1);
@@ -123,7 +123,7 @@ module _ {R Out Ask Room : Type 0} (rule : R → Whole Ask Room → R × Out) wh
           fits : k - length (h c) ≤ length p
           fits = omega (arith, rw length-append at (deciding .within (h c ++ p)))
 
-          a : Apt rule open? admit r (message c m x)
+          a : Apt rule open? admit r (handed c m x)
           a = (o, rw (← (glued (h c) p (good .waiting c) e)) (decides (h c ++ p) e), octets-append (h c) (take (k - length (h c)) p) (good .octets c) (octets-take (k - length (h c)) p op))
 
       one : (r : R) (h : Held) (c : Call Ask Room) → Bytes c → Good rule open? admit shut Fine r h → One r h c (step rule open? admit r h c)

@@ -8,8 +8,8 @@ use lib.ListN.{length, take}
 use lib.Dec.{eqb}
 use borrow.Author.Tests.{eqb-true}
 use Rattle.frame.specs.Decide.{decide, taken, settled}
-use Rattle.stream.specs.Machine.{Call, deliver, ask, Whole, message, asked, Answer, more, refused, done, Held, put, only, whole, delivered, step, run, answered, answers}
-use Rattle.stream.specs.Cut.{outcome}
+use Rattle.stream.specs.Machine.{Call, deliver, ask, Whole, handed, asked, Answer, more, denied, gave, Held, put, only, whole, delivered, step, run, answered, answers}
+use Rattle.stream.specs.Cut.{comesTo}
 use Rattle.stream.proofs.Lent.{put-same, put-other}
 use Rattle.stream.proofs.Cut.{outcome-cons, outcome-one, step-waits}
 
@@ -57,7 +57,7 @@ module _ {R Out Ask Room : Type 0} (rule : R → Whole Ask Room → R × Out) (o
         record { beside = rw (put-other h c y d e, put-comm h c d y (h d ++ q) e); kept = put-other h d (h d ++ q) c (λ f. e (sym f)) }
     delivered-shifted r h c y d q x e zero true o =
         let k = taken (decide (h d ++ q)) in
-        let s = whole-shifted r (put h d []) c y (message d (take k (h d ++ q)) x) (k - length (h d)) (unfold whole in o) in
+        let s = whole-shifted r (put h d []) c y (handed d (take k (h d ++ q)) x) (k - length (h d)) (unfold whole in o) in
         record { beside = rw (put-other h c y d e, put-comm h c d y [] e) (s .beside); kept = s .kept ∙ put-other h d [] c (λ f. e (sym f)) }
 
     step-shifted : (r : R) (h : Held) (c : ℕ) (y : List ℕ) (x : Call Ask Room) → Other c x → open? ((step rule open? admit r h x) .0 .0) c ≡ true
@@ -69,7 +69,7 @@ module _ {R Out Ask Room : Type 0} (rule : R → Whole Ask Room → R × Out) (o
     -- THE MIXING THEOREM
     pub swap : (r : R) (h : Held) (c : ℕ) (p : List ℕ) (room : Room) (x : Call Ask Room) → admit r c room ≡ 0 → settled (decide (h c ++ p)) ≡ false
         → Other c x → open? ((step rule open? admit r h x) .0 .0) c ≡ true → admit ((step rule open? admit r h x) .0 .0) c room ≡ 0
-        → outcome rule open? admit r h (deliver c p room ∷ x ∷ []) ≡ outcome rule open? admit r h (x ∷ deliver c p room ∷ [])
+        → comesTo rule open? admit r h (deliver c p room ∷ x ∷ []) ≡ comesTo rule open? admit r h (x ∷ deliver c p room ∷ [])
     unfolding answered
     swap r h c p room x o u e z v =
         let s = step-shifted r h c (h c ++ p) x e z in

@@ -3,7 +3,7 @@ use Prim.Native.Nat.{ℕ, _-_}
 use mathlib.Core.Bool.{Bool}
 use mathlib.Core.List.{List, [], _∷_, _++_}
 use lib.ListN.{take, drop}
-use Rattle.stream.specs.Machine.{Call, deliver, ask, Whole, Answer, more, refused, done, Held, run, answers}
+use Rattle.stream.specs.Machine.{Call, deliver, ask, Whole, Answer, more, denied, gave, Held, run, answers}
 
 -- spare is some room with which bytes that decide nothing are delivered: it makes no difference to them
 module _ {Ask Room : Type 0} (spare : Room) where
@@ -14,8 +14,8 @@ module _ {Ask Room : Type 0} (spare : Room) where
   -- a call, with every byte that it took a call of its own, the deciding byte with the call's own room, and those not taken left out
   unfoldable pub drip : {Out : Type 0} → Call Ask Room → Answer Out → List (Call Ask Room)
   drip (deliver c p x) more = singles c p
-  drip (deliver c p x) (refused q) = []
-  drip (deliver c p x) (done k o) = singles c (take (k - 1) p) ++ (deliver c (take 1 (drop (k - 1) p)) x ∷ [])
+  drip (deliver c p x) (denied q) = []
+  drip (deliver c p x) (gave k o) = singles c (take (k - 1) p) ++ (deliver c (take 1 (drop (k - 1) p)) x ∷ [])
   drip (ask a) o = ask a ∷ []
 
   -- a transcript's calls so
@@ -26,5 +26,5 @@ module _ {Ask Room : Type 0} (spare : Room) where
 -- what a run comes to: the last state, and what the rules answered
 module _ {R Out Ask Room : Type 0} (rule : R → Whole Ask Room → R × Out) (open? : R → ℕ → Bool) (admit : R → ℕ → Room → ℕ)
   where
-    unfoldable pub outcome : R → Held → List (Call Ask Room) → (R × Held) × List Out
-    outcome r h cs = ((run rule open? admit r h cs) .0, answers ((run rule open? admit r h cs) .1))
+    unfoldable pub comesTo : R → Held → List (Call Ask Room) → (R × Held) × List Out
+    comesTo r h cs = ((run rule open? admit r h cs) .0, answers ((run rule open? admit r h cs) .1))

@@ -8,18 +8,18 @@ use Rattle.area.specs.Area.{partBytes}
 use Rattle.stream.specs.Machine.{Held}
 
 -- "each holding that connection's undecided bytes first and zeros after"
-unfoldable pub partOf : List ℕ → List ℕ
-partOf x = x ++ zeros (partBytes - length x)
+unfoldable pub partHolding : List ℕ → List ℕ
+partHolding x = x ++ zeros (partBytes - length x)
 
 -- the parts of the first n connections, one behind another
 unfoldable pub flat : Held → ℕ → List ℕ
 flat h zero = []
-flat h (suc n) = flat h n ++ partOf (h n)
+flat h (suc n) = flat h n ++ partHolding (h n)
 
 -- the counts of the first n connections
-unfoldable pub counted : Held → ℕ → List ℕ
-counted h zero = []
-counted h (suc n) = counted h n ++ (length (h n) ∷ [])
+unfoldable pub countsOf : Held → ℕ → List ℕ
+countsOf h zero = []
+countsOf h (suc n) = countsOf h n ++ (length (h n) ∷ [])
 
 -- of each of the first n connections, whether it passes the test
 unfoldable pub livesOf : (ℕ → Bool) → ℕ → List Bool

@@ -15,7 +15,7 @@ pub data Call (Ask Room : Type 0) : Type 0 where
 
 -- a call of the rules: a whole message, or another call
 pub data Whole (Ask Room : Type 0) : Type 0 where
-  message : ℕ → List ℕ → Room → Whole Ask Room
+  handed : ℕ → List ℕ → Room → Whole Ask Room
   asked : Ask → Whole Ask Room
 
 -- an answer of the endpoint, where Out is what the rules answer
@@ -23,9 +23,9 @@ pub data Answer (Out : Type 0) : Type 0 where
   -- "more needed": every byte of the piece is taken, and none of them decides
   more : Answer Out
   -- a delivery refused by this number: nothing is taken
-  refused : ℕ → Answer Out
+  denied : ℕ → Answer Out
   -- so many bytes taken, and what the rules answered
-  done : ℕ → Out → Answer Out
+  gave : ℕ → Out → Answer Out
 
 -- ---- undecided bytes, by connection
 
@@ -54,15 +54,15 @@ module _ {R Out Ask Room : Type 0} (rule : R → Whole Ask Room → R × Out) wh
   module _ (open? : R → ℕ → Bool) (admit : R → ℕ → Room → ℕ) where
     -- a whole call: the rules' step, of which connections that are then closed keep no byte
     unfoldable pub whole : R → Held → Whole Ask Room → ℕ → (R × Held) × Answer Out
-    whole r h w n = let s = rule r w in ((s .0, only (open? (s .0)) h), done n (s .1))
+    whole r h w n = let s = rule r w in ((s .0, only (open? (s .0)) h), gave n (s .1))
 
     -- a delivery, by its refusal's number or 0, and by whether what is held and the piece decide
     unfoldable pub delivered : ℕ → Bool → R → Held → ℕ → List ℕ → Room → (R × Held) × Answer Out
-    delivered (suc q) b r h c p x = ((r, h), refused (suc q))
+    delivered (suc q) b r h c p x = ((r, h), denied (suc q))
     delivered zero false r h c p x = ((r, put h c (h c ++ p)), more)
     delivered zero true r h c p x =
         let k = taken (decide (h c ++ p)) in
-        whole r (put h c []) (message c (take k (h c ++ p)) x) (k - length (h c))
+        whole r (put h c []) (handed c (take k (h c ++ p)) x) (k - length (h c))
 
     unfoldable pub step : R → Held → Call Ask Room → (R × Held) × Answer Out
     step r h (deliver c p x) = delivered (admit r c x) (settled (decide (h c ++ p))) r h c p x
@@ -86,13 +86,13 @@ module _ {Out Ask Room : Type 0} (shut : Whole Ask Room → Out → ℕ → Bool
   -- the whole calls that one call and its answer make, and the bytes then held
   unfoldable pub heard : Held → Call Ask Room → Answer Out → List (Whole Ask Room) × Held
   heard h (deliver c p x) more = ([], put h c (h c ++ p))
-  heard h (deliver c p x) (refused q) = ([], h)
-  heard h (deliver c p x) (done k o) =
-      let w = message c (h c ++ take k p) x in
+  heard h (deliver c p x) (denied q) = ([], h)
+  heard h (deliver c p x) (gave k o) =
+      let w = handed c (h c ++ take k p) x in
       (w ∷ [], left (put h c []) w o)
   heard h (ask a) more = ([], h)
-  heard h (ask a) (refused q) = ([], h)
-  heard h (ask a) (done k o) = (asked a ∷ [], left h (asked a) o)
+  heard h (ask a) (denied q) = ([], h)
+  heard h (ask a) (gave k o) = (asked a ∷ [], left h (asked a) o)
 
   unfoldable pub glue : Held → List (Call Ask Room × Answer Out) → List (Whole Ask Room) × Held
   glue h [] = ([], h)
@@ -104,8 +104,8 @@ module _ {Out Ask Room : Type 0} (shut : Whole Ask Room → Out → ℕ → Bool
 -- what the rules answered, of a transcript
 unfoldable pub answered : {Out : Type 0} → Answer Out → List Out
 answered more = []
-answered (refused q) = []
-answered (done k o) = o ∷ []
+answered (denied q) = []
+answered (gave k o) = o ∷ []
 
 module _ {Out Ask Room : Type 0} where
   unfoldable pub answers : List (Call Ask Room × Answer Out) → List Out

@@ -6,7 +6,7 @@ use mathlib.Core.List.{List, [], _∷_, _++_}
 use lib.ListN.{length, take}
 use Rattle.octets.specs.Numbers.{Octets}
 use Rattle.frame.specs.Decide.{decide, taken, settled}
-use Rattle.stream.specs.Machine.{Call, deliver, ask, Whole, message, asked, Answer, more, refused, done, Held, put, rules, whole, step, run, heard, glue, answers}
+use Rattle.stream.specs.Machine.{Call, deliver, ask, Whole, handed, asked, Answer, more, denied, gave, Held, put, rules, whole, step, run, heard, glue, answers}
 
 -- the last byte of m decides it
 pub record Decides (m : List ℕ) : Type 0 where
@@ -27,7 +27,7 @@ module _ {R Out Ask Room : Type 0} (rule : R → Whole Ask Room → R × Out) (o
   where
     -- a whole call as the theorem hands it over: a message is admitted, its last byte decides it, and it is made of bytes
     abbrev pub Apt : R → Whole Ask Room → Type 0
-    Apt r (message c m x) = (admit r c x ≡ 0) × Decides m × Octets m
+    Apt r (handed c m x) = (admit r c x ≡ 0) × Decides m × Octets m
     Apt r (asked a) = Unit {0}
 
     -- each of them, at its place
@@ -39,11 +39,11 @@ module _ {R Out Ask Room : Type 0} (rule : R → Whole Ask Room → R × Out) (o
     -- and what is taken ends with the deciding byte
     abbrev pub Right : R → Held → Call Ask Room → Answer Out → Type 0
     Right r h (deliver c p x) more = (admit r c x ≡ 0) × (settled (decide (h c ++ p)) ≡ false)
-    Right r h (deliver c p x) (refused q) = (admit r c x ≡ q) × (q ≡ 0 → ⊥)
-    Right r h (deliver c p x) (done k o) = (admit r c x ≡ 0) × (k ≤ length p) × Decides (h c ++ take k p)
+    Right r h (deliver c p x) (denied q) = (admit r c x ≡ q) × (q ≡ 0 → ⊥)
+    Right r h (deliver c p x) (gave k o) = (admit r c x ≡ 0) × (k ≤ length p) × Decides (h c ++ take k p)
     Right r h (ask a) more = ⊥
-    Right r h (ask a) (refused q) = ⊥
-    Right r h (ask a) (done k o) = Unit {0}
+    Right r h (ask a) (denied q) = ⊥
+    Right r h (ask a) (gave k o) = Unit {0}
 
     module _ (shut : Whole Ask Room → Out → ℕ → Bool) where
       -- each of them, at its place: the device is the rules', the bytes are those that the host counts

@@ -6,7 +6,7 @@ use mathlib.Core.List.{List}
 use Rattle.connection.specs.State.{liveAt}
 use Rattle.connection.specs.declared.Connection.{Connection}
 use Rattle.subscription.specs.State.{free, markedOf, toldOf, sweptOf}
-use Rattle.subscription.specs.Rules.{entryObeys, apart}
+use Rattle.subscription.specs.Obeys.{entryObeys, apart}
 use Rattle.subscription.specs.declared.Subscription.{Subscription}
 
 pub record EntriesKept : Type 0 where

@@ -1,3 +1,3 @@
 pub mod State
-pub mod Rules
+pub mod Obeys
 pub mod Kept

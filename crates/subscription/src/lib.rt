@@ -5,7 +5,7 @@ ghost use mathlib.Core.Bool.{_||_};
 ghost use mathlib.Core.List.{map};
 ghost use Rattle.laws.specs.Lists.{all, allPairs};
 ghost use Rattle.subscription.specs.State.{isMute, isTwin, twinAt, lowestUnused, lowestWaiting, markedOf, toldOf, sweptBy, sweptOf};
-ghost use Rattle.subscription.specs.Rules.{isFree, soundBy, entryObeys, apart};
+ghost use Rattle.subscription.specs.Obeys.{isFree, soundBy, entryObeys, apart};
 ghost use Rattle.subscription.specs.Kept.{EntriesKept};
 
 pub const ENTRIES: usize = 32;

@@ -28,7 +28,7 @@ use Rattle.fields.specs.Fields.{heartbeatOf}
 use Rattle.reader.specs.Numbers.{heartbeatNumbers}
 use Rattle.reader.specs.Read.{dataOf, messageOf, readBy, readOf}
 use Rattle.reader.proofs.Sounds.{keep-data}
-use Rattle.writer.specs.Numbers.{done, Outcome, writtenNumbers}
+use Rattle.writer.specs.Numbers.{done, Writing, writtenNumbers}
 use Rattle.layout.specs.Message.{sizeOf, message, atFront}
 use Rattle.writer.specs.Write.{leastRoom, greatestSeconds, written, startOf, appendOf, beatFits, beatBytes, keepAliveOf}
 use Rattle.writer.specs.Round.{Made, started, appended, joined, entriesOf, entriesIn}
@@ -72,8 +72,8 @@ module _ (buf : List ℕ) (kind : ℕ) (room : leastRoom ≤ length buf) (low : 
       let d = start-done buf kind e room (well-make kind e low f) z (atFront (message kind 1 e) buf) refl in
       let one = grown-list 0 kind kind [] e [] refl refl refl f in
       made-as (e ∷ []) (entriesOf 1 kind e) (length e + 10) (length e + 10) (startOf buf kind e .buffer) (atFront (message kind 1 e) buf)
-      (sym (one .0)) refl (sym (ap (λ (o : Outcome). o .buffer) d))
-      (started e (length e + 10) (sym (ap (λ (o : Outcome). o .answer) d)))
+      (sym (one .0)) refl (sym (ap (λ (o : Writing). o .buffer) d))
+      (started e (length e + 10) (sym (ap (λ (o : Writing). o .answer) d)))
 
   append-made : (c : ℕ) (t e : List ℕ) → MadeOf c t → 0 < c → entriesFill c kind t ≡ true → entriesFill 1 kind e ≡ true → sizeOf (t ++ e) ≤ greatestSize
       → MadeOf (c + 1) (t ++ e)
@@ -91,8 +91,8 @@ module _ (buf : List ℕ) (kind : ℕ) (room : leastRoom ≤ length buf) (low : 
       ∙ append-sound b kind e (omega arith) (length t + 10) (h .sound) in
       let more = grown-list c kind kind t e (entriesOf c kind t) refl refl f o in
       made-as (entriesOf c kind t ++ (e ∷ [])) (entriesOf (c + 1) kind (t ++ e)) (length t + 10 + length e) (length (t ++ e) + 10) (appendOf b kind e .buffer) (atFront l buf)
-      (sym (more .0)) (omega arith) (sym (ap (λ (o : Outcome). o .buffer) d) ∙ front-twice m l buf (omega arith))
-      (appended (entriesOf c kind t) (length t + 10) b e (length t + 10 + length e) w (sym (ap (λ (o : Outcome). o .answer) d)))
+      (sym (more .0)) (omega arith) (sym (ap (λ (o : Writing). o .buffer) d) ∙ front-twice m l buf (omega arith))
+      (appended (entriesOf c kind t) (length t + 10) b e (length t + 10 + length e) w (sym (ap (λ (o : Writing). o .answer) d)))
 
   make-from : (j : ℕ) (u t : List ℕ) (c : ℕ) → MadeOf c t → 0 < c → entriesFill c kind t ≡ true → entriesFill j kind u ≡ true → sizeOf (t ++ u) ≤ greatestSize
       → MadeOf (c + j) (t ++ u)

@@ -24,9 +24,9 @@ use Rattle.fields.specs.Fields.{heartbeatOf}
 use Rattle.reader.specs.Numbers.{heartbeatNumbers}
 use Rattle.reader.specs.Read.{dataOf, messageOf, readBy, readOf}
 use Rattle.reader.specs.Entry.{hasEntry, entryIn, entryBy, entryOf, partIn, partBy, partOf}
-use Rattle.writer.specs.Numbers.{done, tooLong, badEntry, noRoom, Outcome}
+use Rattle.writer.specs.Numbers.{done, tooLong, badEntry, writerNoRoom, Writing}
 use Rattle.layout.specs.Message.{sizeOf, message, atFront}
-use Rattle.writer.specs.Write.{leastRoom, greatestSeconds, refused, written, offered, startOf, appendSound, appendBy, appendOf, beatFits, beatBytes, keepAliveOf}
+use Rattle.writer.specs.Write.{leastRoom, greatestSeconds, unwritten, written, offered, startOf, appendSound, appendBy, appendOf, beatFits, beatBytes, keepAliveOf}
 use Rattle.writer.specs.Round.{Made, started, appended, entriesOf, entriesIn, ReadsAs}
 use Rattle.layout.proofs.Messages.{length-message}
 use Rattle.writer.proofs.Outcomes.{sound-entries, well-kind, beat-good}
@@ -48,7 +48,7 @@ reads-as s n kind count t h k =
     }
 
 -- a call that wrote: the message at the buffer's front
-pub record Wrote (o : Outcome) (buf : List ℕ) (n kind count : ℕ) (body : List ℕ) : Type 0 where
+pub record Wrote (o : Writing) (buf : List ℕ) (n kind count : ℕ) (body : List ℕ) : Type 0 where
   pub small : sizeOf body ≤ greatestSize
   pub size : n ≡ length body + 10
   pub after : o .buffer ≡ atFront (message kind count body) buf
@@ -62,29 +62,29 @@ written-way kind count body buf n h e =
 
 offered-way : (kind count : ℕ) (body buf : List ℕ) (n : ℕ) → offered kind count body buf .answer ≡ done ∷ n ∷ []
     → Wrote (offered kind count body buf) buf n kind count body
-unfolding offered refused
+unfolding offered unwritten
 offered-way kind count body buf n e = go (ltb greatestSize (sizeOf body)) refl e
   where
     go : (b : Bool) → ltb greatestSize (sizeOf body) ≡ b
-        → cond b (refused tooLong buf) (written (message kind count body) buf) .answer ≡ done ∷ n ∷ []
-        → Wrote (cond b (refused tooLong buf) (written (message kind count body) buf)) buf n kind count body
+        → cond b (unwritten tooLong buf) (written (message kind count body) buf) .answer ≡ done ∷ n ∷ []
+        → Wrote (cond b (unwritten tooLong buf) (written (message kind count body) buf)) buf n kind count body
     go true q e = absurd (omega (arith, ap length e))
     go false q e = written-way kind count body buf n (ltb-false greatestSize (sizeOf body) q) e
 
 pub start-way : (buf : List ℕ) (kind : ℕ) (e : List ℕ) (n : ℕ) → startOf buf kind e .answer ≡ done ∷ n ∷ []
     → (wellFormed kind e ≡ true) × Wrote (startOf buf kind e) buf n kind 1 e
-unfolding startOf refused
+unfolding startOf unwritten
 start-way buf kind e n h = go (ltb (length buf) leastRoom) (wellFormed kind e) refl h
   where
     go : (a b : Bool) → wellFormed kind e ≡ b
-        → cond a (refused noRoom buf) (cond b (offered kind 1 e buf) (refused badEntry buf)) .answer ≡ done ∷ n ∷ []
-        → (wellFormed kind e ≡ true) × Wrote (cond a (refused noRoom buf) (cond b (offered kind 1 e buf) (refused badEntry buf))) buf n kind 1 e
+        → cond a (unwritten writerNoRoom buf) (cond b (offered kind 1 e buf) (unwritten badEntry buf)) .answer ≡ done ∷ n ∷ []
+        → (wellFormed kind e ≡ true) × Wrote (cond a (unwritten writerNoRoom buf) (cond b (offered kind 1 e buf) (unwritten badEntry buf))) buf n kind 1 e
     go true b q h = absurd (omega (arith, ap length h))
     go false false q h = absurd (omega (arith, ap length h))
     go false true q h = (q, offered-way kind 1 e buf n h)
 
 -- an append that wrote: what stood there, and what it took
-pub record Grew (buf : List ℕ) (kind : ℕ) (e : List ℕ) (n : ℕ) (o : Outcome) : Type 0 where
+pub record Grew (buf : List ℕ) (kind : ℕ) (e : List ℕ) (n : ℕ) (o : Writing) : Type 0 where
   pub length-before : ℕ
   pub sound : decide buf ≡ Sound length-before
   pub type : kind ≡ pduType buf
@@ -93,12 +93,12 @@ pub record Grew (buf : List ℕ) (kind : ℕ) (e : List ℕ) (n : ℕ) (o : Outc
 
 sound-grew : (buf : List ℕ) (kind : ℕ) (e : List ℕ) (n m : ℕ) → decide buf ≡ Sound m
     → appendSound m buf kind e .answer ≡ done ∷ n ∷ [] → Grew buf kind e n (appendSound m buf kind e)
-unfolding appendSound refused
+unfolding appendSound unwritten
 sound-grew buf kind e n m s h = go (eqb kind (pduType buf) && wellFormed kind e) refl h
   where
     go : (a : Bool) → (eqb kind (pduType buf) && wellFormed kind e) ≡ a
-        → cond a (offered kind (messageCount buf + 1) (dataOf buf m ++ e) buf) (refused badEntry buf) .answer ≡ done ∷ n ∷ []
-        → Grew buf kind e n (cond a (offered kind (messageCount buf + 1) (dataOf buf m ++ e) buf) (refused badEntry buf))
+        → cond a (offered kind (messageCount buf + 1) (dataOf buf m ++ e) buf) (unwritten badEntry buf) .answer ≡ done ∷ n ∷ []
+        → Grew buf kind e n (cond a (offered kind (messageCount buf + 1) (dataOf buf m ++ e) buf) (unwritten badEntry buf))
     go true q h =
         record {
           length-before = m;
@@ -110,11 +110,11 @@ sound-grew buf kind e n m s h = go (eqb kind (pduType buf) && wellFormed kind e)
     go false q h = absurd (omega (arith, ap length h))
 
 pub append-way : (buf : List ℕ) (kind : ℕ) (e : List ℕ) (n : ℕ) → appendOf buf kind e .answer ≡ done ∷ n ∷ [] → Grew buf kind e n (appendOf buf kind e)
-unfolding appendOf appendBy refused
+unfolding appendOf appendBy unwritten
 append-way buf kind e n h = go (ltb (length buf) leastRoom) (decide buf) refl h
   where
-    go : (a : Bool) (d : Decision) → decide buf ≡ d → cond a (refused noRoom buf) (appendBy d buf kind e) .answer ≡ done ∷ n ∷ []
-        → Grew buf kind e n (cond a (refused noRoom buf) (appendBy d buf kind e))
+    go : (a : Bool) (d : Decision) → decide buf ≡ d → cond a (unwritten writerNoRoom buf) (appendBy d buf kind e) .answer ≡ done ∷ n ∷ []
+        → Grew buf kind e n (cond a (unwritten writerNoRoom buf) (appendBy d buf kind e))
     go true d q h = absurd (omega (arith, ap length h))
     go false Undecided q h = absurd (omega (arith, ap length h))
     go false (Faulty f m) q h = absurd (omega (arith, ap (λ (l : List ℕ). getD l 0 0) h))
@@ -134,7 +134,7 @@ front-entries buf kind count body z k p d =
     front-holds buf kind count body z (omega arith) (omega (arith, entries-few count kind body d)) (simp (ne-eqb count 0 (λ q. omega arith), nk)) (simp nk d)
 
 -- entries that a call wrote are read
-wrote-reads : (o : Outcome) (buf : List ℕ) (n kind count : ℕ) (body : List ℕ) → Wrote o buf n kind count body → kind ≤ response → 0 < count
+wrote-reads : (o : Writing) (buf : List ℕ) (n kind count : ℕ) (body : List ℕ) → Wrote o buf n kind count body → kind ≤ response → 0 < count
     → entriesFill count kind body ≡ true → ReadsAs (o .buffer) n kind (entriesOf count kind body)
 wrote-reads o buf n kind count body w k p d =
     rw (w .after, w .size) (reads-as (atFront (message kind count body) buf) (length body + 10) kind count body (front-entries buf kind count body (w .small) k p d) k)
@@ -221,12 +221,12 @@ beat-numbers {value = v} (milliseconds f) b = simp (ne-eqb (length (bytes32 v)) 
 
 beat-way : (buf : List ℕ) (form value n : ℕ) → keepAliveOf buf form value .answer ≡ done ∷ n ∷ []
     → (beatFits form value ≡ true) × Wrote (keepAliveOf buf form value) buf n keepAlive 1 (beatBytes form value)
-unfolding keepAliveOf refused
+unfolding keepAliveOf unwritten
 beat-way buf form value n h = go (ltb (length buf) leastRoom) (beatFits form value) refl h
   where
     go : (a b : Bool) → beatFits form value ≡ b
-        → cond a (refused noRoom buf) (cond b (written (message keepAlive 1 (beatBytes form value)) buf) (refused badEntry buf)) .answer ≡ done ∷ n ∷ []
-        → (beatFits form value ≡ true) × Wrote (cond a (refused noRoom buf) (cond b (written (message keepAlive 1 (beatBytes form value)) buf) (refused badEntry buf))) buf n keepAlive 1 (beatBytes form value)
+        → cond a (unwritten writerNoRoom buf) (cond b (written (message keepAlive 1 (beatBytes form value)) buf) (unwritten badEntry buf)) .answer ≡ done ∷ n ∷ []
+        → (beatFits form value ≡ true) × Wrote (cond a (unwritten writerNoRoom buf) (cond b (written (message keepAlive 1 (beatBytes form value)) buf) (unwritten badEntry buf))) buf n keepAlive 1 (beatBytes form value)
     go true b q h = absurd (omega (arith, ap length h))
     go false false q h = absurd (omega (arith, ap length h))
     go false true q h = (q, written-way keepAlive 1 (beatBytes form value) buf n (beat-small (beat-view form value q)) h)
@@ -246,6 +246,6 @@ pub beat-taken : (buf : List ℕ) (form value : ℕ) → leastRoom ≤ length bu
     → readOf (keepAliveOf buf form value .buffer) ≡ 0 ∷ (length (beatBytes form value) + 10) ∷ keepAlive ∷ 1 ∷ form ∷ value ∷ []
 unfolding written
 beat-taken buf form value room f h =
-    let g = ap (λ (o : Outcome). o .answer) (beat-good buf form value room f) in
+    let g = ap (λ (o : Writing). o .answer) (beat-good buf form value room f) in
     let l = length-message keepAlive 1 (beatBytes form value) in
     beat-reads buf form value (length (beatBytes form value) + 10) h (sym g ∙ rw l)

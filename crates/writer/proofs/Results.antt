@@ -21,9 +21,9 @@ use Rattle.reader.specs.Numbers.{fault}
 use Rattle.reader.specs.Read.{dataOf}
 use Rattle.writer.specs.declared.Written.{Written}
 use Rattle.writer.specs.declared.Written.the-variants.{Length, NoRoom, Fault, TooLong, BadEntry}
-use Rattle.writer.specs.Numbers.{done, noRoom, tooLong, badEntry, writtenNumbers, Outcome, outcome}
+use Rattle.writer.specs.Numbers.{done, writerNoRoom, tooLong, badEntry, writtenNumbers, Writing, writing}
 use Rattle.layout.specs.Message.{sizeOf, message}
-use Rattle.writer.specs.Write.{leastRoom, greatestSeconds, refused, written, offered, appendSound, appendBy, appendOf, beatFits, beatBytes}
+use Rattle.writer.specs.Write.{leastRoom, greatestSeconds, unwritten, written, offered, appendSound, appendBy, appendOf, beatFits, beatBytes}
 use Rattle.writer.specs.Round.{Made, ReadAfterWrite, WriteAfterRead, OneResult}
 use Rattle.writer.proofs.Readings.{start-reads, append-reads, made-reads, beat-reads, beat-taken, sound-reads}
 use Rattle.writer.proofs.Again.{entries-again, keep-again, made-bytes}
@@ -52,7 +52,7 @@ write-after-read = record { reads = sound-reads; entries = entries-again; beat =
 writtenBack : List ℕ → Written
 writtenBack l =
     cond (eqb (getD l 0 0) done) (Length (getD l 1 0))
-    (cond (eqb (getD l 0 0) noRoom) NoRoom
+    (cond (eqb (getD l 0 0) writerNoRoom) NoRoom
     (cond (eqb (getD l 0 0) fault) (Fault (getD l 1 0)) (cond (eqb (getD l 0 0) tooLong) TooLong BadEntry)))
 
 written-back : (r : Written) → writtenBack (writtenNumbers r) ≡ r
@@ -66,10 +66,10 @@ written-back BadEntry = refl
 written-tells : (a b : Written) → writtenNumbers a ≡ writtenNumbers b → a ≡ b
 written-tells = undone-tells writtenNumbers writtenBack written-back
 
-one-result : (o : Outcome) (a b : Written) (s t : List ℕ) → outcome a s ≡ o → outcome b t ≡ o → (a ≡ b) × (s ≡ t)
+one-result : (o : Writing) (a b : Written) (s t : List ℕ) → writing a s ≡ o → writing b t ≡ o → (a ≡ b) × (s ≡ t)
 one-result o a b s t p q =
     let e = p ∙ sym q in
-    (written-tells a b (ap (λ (x : Outcome). x .answer) e), ap (λ (x : Outcome). x .buffer) e)
+    (written-tells a b (ap (λ (x : Writing). x .answer) e), ap (λ (x : Writing). x .buffer) e)
 
 one-run : (buf : List ℕ) (kind : ℕ) (es : List (List ℕ)) (m n : ℕ) (s t : List ℕ) → Made buf kind es m s → Made buf kind es n t → (m ≡ n) × (s ≡ t)
 one-run buf kind es m n s t p q =
@@ -78,24 +78,24 @@ one-run buf kind es m n s t p q =
     (a .0 ∙ sym (b .0), a .1 ∙ sym (b .1))
 
 -- a sound message has room
-sound-room : (m : ℕ) (buf : List ℕ) (kind : ℕ) (e : List ℕ) → appendSound m buf kind e .answer ≡ noRoom ∷ [] → ⊥
-unfolding appendSound offered refused written
+sound-room : (m : ℕ) (buf : List ℕ) (kind : ℕ) (e : List ℕ) → appendSound m buf kind e .answer ≡ writerNoRoom ∷ [] → ⊥
+unfolding appendSound offered unwritten written
 sound-room m buf kind e h = go (eqb kind (pduType buf) && wellFormed kind e) (ltb greatestSize (sizeOf (dataOf buf m ++ e))) h
   where
     go : (a b : Bool)
-        → cond a (cond b (refused tooLong buf) (written (message kind (messageCount buf + 1) (dataOf buf m ++ e)) buf)) (refused badEntry buf) .answer
-        ≡ noRoom ∷ []
+        → cond a (cond b (unwritten tooLong buf) (written (message kind (messageCount buf + 1) (dataOf buf m ++ e)) buf)) (unwritten badEntry buf) .answer
+        ≡ writerNoRoom ∷ []
         → ⊥
     go true true h = omega (arith, ap (λ (l : List ℕ). getD l 0 0) h)
     go true false h = omega (arith, ap length h)
     go false b h = omega (arith, ap (λ (l : List ℕ). getD l 0 0) h)
 
-append-room : (buf : List ℕ) (kind : ℕ) (e : List ℕ) → appendOf buf kind e .answer ≡ noRoom ∷ [] → length buf < leastRoom
-unfolding appendOf appendBy refused
+append-room : (buf : List ℕ) (kind : ℕ) (e : List ℕ) → appendOf buf kind e .answer ≡ writerNoRoom ∷ [] → length buf < leastRoom
+unfolding appendOf appendBy unwritten
 append-room buf kind e h = go (ltb (length buf) leastRoom) refl (decide buf) refl h
   where
     go : (a : Bool) → ltb (length buf) leastRoom ≡ a → (d : Decision) → decide buf ≡ d
-        → cond a (refused noRoom buf) (appendBy d buf kind e) .answer ≡ noRoom ∷ [] → length buf < leastRoom
+        → cond a (unwritten writerNoRoom buf) (appendBy d buf kind e) .answer ≡ writerNoRoom ∷ [] → length buf < leastRoom
     go true q d s h = ltb-true (length buf) leastRoom q
     go false q Undecided s h = omega (arith, deciding .short buf s)
     go false q (Faulty f m) s h = absurd (omega (arith, ap length h))

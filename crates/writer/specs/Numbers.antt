@@ -10,8 +10,8 @@ abbrev pub done : ℕ
 done = 0
 
 -- "4 NoRoom", "10 TooLong", "11 BadEntry"
-abbrev pub noRoom : ℕ
-noRoom = 4
+abbrev pub writerNoRoom : ℕ
+writerNoRoom = 4
 
 abbrev pub tooLong : ℕ
 tooLong = 10
@@ -22,15 +22,15 @@ badEntry = 11
 -- "the answer .. is the number alone, with a fault for 8"; where nothing is refused "its answer is the message's length"
 unfoldable pub writtenNumbers : Written → List ℕ
 writtenNumbers (Length n) = done ∷ n ∷ []
-writtenNumbers NoRoom = noRoom ∷ []
+writtenNumbers NoRoom = writerNoRoom ∷ []
 writtenNumbers (Fault f) = fault ∷ f ∷ []
 writtenNumbers TooLong = tooLong ∷ []
 writtenNumbers BadEntry = badEntry ∷ []
 
 -- all that a call of the writer gives: the answer in the paper's numbers, and the buffer after it
-pub record Outcome : Type 0 where
+pub record Writing : Type 0 where
   pub answer : List ℕ
   pub buffer : List ℕ
 
-abbrev pub outcome : Written → List ℕ → Outcome
-outcome r after = record { answer = writtenNumbers r; buffer = after }
+abbrev pub writing : Written → List ℕ → Writing
+writing r after = record { answer = writtenNumbers r; buffer = after }

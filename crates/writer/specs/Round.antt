@@ -15,7 +15,7 @@ use Rattle.reader.specs.Numbers.{noEntry}
 use Rattle.reader.specs.Read.{dataOf, readOf}
 use Rattle.reader.specs.Entry.{fieldsOf, entryAt, entryOf, partOf}
 use Rattle.writer.specs.declared.Written.{Written}
-use Rattle.writer.specs.Numbers.{done, noRoom, writtenNumbers, Outcome, outcome}
+use Rattle.writer.specs.Numbers.{done, writerNoRoom, writtenNumbers, Writing, writing}
 use Rattle.layout.specs.Message.{message, atFront}
 use Rattle.writer.specs.Write.{leastRoom, greatestSeconds, written, startOf, appendOf, keepAliveOf}
 
@@ -79,7 +79,7 @@ pub record WriteAfterRead : Type 0 where
 -- the numbers of an answer tell it from every other, so that two results which a promise allows are equal
 pub record OneResult : Type 0 where
   pub numbers : (a b : Written) → writtenNumbers a ≡ writtenNumbers b → a ≡ b
-  pub results : (o : Outcome) (a b : Written) (s t : List ℕ) → outcome a s ≡ o → outcome b t ≡ o → (a ≡ b) × (s ≡ t)
+  pub results : (o : Writing) (a b : Written) (s t : List ℕ) → writing a s ≡ o → writing b t ≡ o → (a ≡ b) × (s ≡ t)
   pub runs : (buf : List ℕ) (kind : ℕ) (es : List (List ℕ)) (m n : ℕ) (s t : List ℕ) → Made buf kind es m s → Made buf kind es n t → (m ≡ n) × (s ≡ t)
   -- 2,049 bytes always decide: append refuses by 4 only where the buffer is under 2,049
-  pub room : (buf : List ℕ) (kind : ℕ) (e : List ℕ) → appendOf buf kind e .answer ≡ noRoom ∷ [] → length buf < leastRoom
+  pub room : (buf : List ℕ) (kind : ℕ) (e : List ℕ) → appendOf buf kind e .answer ≡ writerNoRoom ∷ [] → length buf < leastRoom

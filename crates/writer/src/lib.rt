@@ -8,7 +8,7 @@ ghost use Rattle.frame.specs.Header.{messageCount};
 ghost use Rattle.frame.specs.Decide.{decide};
 ghost use Rattle.frame.specs.declared.Decision.the-variants.{Sound};
 ghost use Rattle.reader.specs.Read.{dataOf};
-ghost use Rattle.writer.specs.Numbers.{outcome};
+ghost use Rattle.writer.specs.Numbers.{writing};
 ghost use Rattle.layout.specs.Message.{sizeOf, message, atFront};
 ghost use Rattle.writer.specs.Round.{ReadAfterWrite, WriteAfterRead, OneResult};
 ghost use Rattle.writer.specs.Write.{leastRoom, startOf, appendSound, appendOf, keepAliveOf};
@@ -41,7 +41,7 @@ fn put_message(buf: &mut [u8], kind: u8, e: &[u8])
 
 // Starts a message with one entry.
 pub fn start(buf: &mut [u8], kind: u8, e: &[u8]) -> Written
-    ensures { λ r. ⌜ outcome r (now (buf .exit)) ≡ startOf (now (buf .entry)) kind (now (e .entry)) ⌝ }
+    ensures { λ r. ⌜ writing r (now (buf .exit)) ≡ startOf (now (buf .entry)) kind (now (e .entry)) ⌝ }
 {
     if buf.len() < ROOM {
         return Written::NoRoom;
@@ -68,7 +68,7 @@ fn put_more(buf: &mut [u8], n: usize, kind: u8, e: &[u8])
 
 fn append_sound(buf: &mut [u8], n: usize, kind: u8, e: &[u8]) -> Written
     requires { ⌜ (leastRoom ≤ length (now buf)) × (decide (now buf) ≡ Sound n) ⌝ }
-    ensures { λ r. ⌜ outcome r (now (buf .exit)) ≡ appendSound n (now (buf .entry)) kind (now (e .entry)) ⌝ }
+    ensures { λ r. ⌜ writing r (now (buf .exit)) ≡ appendSound n (now (buf .entry)) kind (now (e .entry)) ⌝ }
 {
     if kind != buf[7] {
         return Written::BadEntry;
@@ -85,7 +85,7 @@ fn append_sound(buf: &mut [u8], n: usize, kind: u8, e: &[u8]) -> Written
 
 // Appends an entry to the sound message at the buffer's front.
 pub fn append(buf: &mut [u8], kind: u8, e: &[u8]) -> Written
-    ensures { λ r. ⌜ outcome r (now (buf .exit)) ≡ appendOf (now (buf .entry)) kind (now (e .entry)) ⌝ }
+    ensures { λ r. ⌜ writing r (now (buf .exit)) ≡ appendOf (now (buf .entry)) kind (now (e .entry)) ⌝ }
 {
     if buf.len() < ROOM {
         return Written::NoRoom;
@@ -100,7 +100,7 @@ pub fn append(buf: &mut [u8], kind: u8, e: &[u8]) -> Written
 
 // Writes a keep-alive from a form and a value in that form's unit.
 pub fn keep_alive(buf: &mut [u8], form: u8, value: u32) -> Written
-    ensures { λ r. ⌜ outcome r (now (buf .exit)) ≡ keepAliveOf (now (buf .entry)) form value ⌝ }
+    ensures { λ r. ⌜ writing r (now (buf .exit)) ≡ keepAliveOf (now (buf .entry)) form value ⌝ }
 {
     if buf.len() < ROOM {
         return Written::NoRoom;

@@ -1,5 +1,5 @@
 use Rattle.laws.specs.Lists.{all}
-use Rattle.connection.specs.Rules.{connectionObeys}
+use Rattle.connection.specs.Obeys.{connectionObeys}
 use Rattle.laws.proofs.Loops.{Testing, testing-none, testing-more, testing-not, testing-end}
 use borrow.Author.Tests.{not-true, not-false}
 use Prim.Native.Nat.{_-_}

@@ -1,5 +1,5 @@
 use Rattle.connection.proofs.Times.{fit-at}
-use Rattle.connection.specs.Supervision.{tickedOf}
+use Rattle.connection.specs.Supervision.{connectionTicked}
 use Rattle.laws.proofs.Loops.{Mapping, mapping-none, mapping-from, mapping-all}
 use Prim.Native.Nat.{_-_}
 use borrow.Author.Needs.{needs}
@@ -7,7 +7,7 @@ use Rattle.connection.proofs.all_ticked.Statement.{statement}
 use Rattle.connection.proofs.all_ticked.Tie as tie
 
 abbrev Inv-loop : tie.InvT-loop
-Inv-loop step connections out₀ i₀ out i = Mapping (tickedOf step) 8 i connections out
+Inv-loop step connections out₀ i₀ out i = Mapping (connectionTicked step) 8 i connections out
 
 abbrev μ-loop : tie.MeasureT-loop
 μ-loop step connections out₀ i₀ out i = 8 - i

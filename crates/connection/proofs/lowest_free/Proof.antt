@@ -1,5 +1,5 @@
 use Rattle.connection.proofs.Times.{free-is}
-use Rattle.connection.specs.State.{isFree}
+use Rattle.connection.specs.State.{isNotOpen}
 use Rattle.laws.proofs.Loops.{Searching, searching-none, searching-more, searching-here, searching-end}
 use Prim.Native.Nat.{_-_}
 use borrow.Author.Needs.{needs}
@@ -7,7 +7,7 @@ use Rattle.connection.proofs.lowest_free.Statement.{statement}
 use Rattle.connection.proofs.lowest_free.Tie as tie
 
 abbrev Inv-loop : tie.InvT-loop
-Inv-loop connections i₀ i = Searching isFree 8 i connections
+Inv-loop connections i₀ i = Searching isNotOpen 8 i connections
 
 abbrev μ-loop : tie.MeasureT-loop
 μ-loop connections i₀ i = 8 - i

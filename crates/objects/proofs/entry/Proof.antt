@@ -1,4 +1,4 @@
-use Rattle.objects.specs.Tests.{entryOf}
+use Rattle.objects.specs.Tests.{subscriptionFrom}
 use borrow.Author.Needs.{needs}
 use Rattle.objects.proofs.entry.Statement.{statement}
 use Rattle.objects.proofs.entry.Tie as tie
@@ -16,7 +16,7 @@ be32-requires-4 : tie.Need-be32-requires-4
 be32-requires-4 c κs = search needs
 
 returns : tie.Need-returns
-unfolding entryOf
+unfolding subscriptionFrom
 returns c = cc
 
 pub entry-spec : {M : Type 1} → statement M

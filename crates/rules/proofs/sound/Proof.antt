@@ -9,7 +9,7 @@ use Rattle.frame.specs.Limits.{headerEnd, notification, keepAlive}
 use Rattle.frame.specs.Header.{pduType, messageCount}
 use Rattle.fields.specs.Fields.{heartbeatOf}
 use Rattle.device.specs.State.{heardAt}
-use Rattle.rules.specs.Rule.{beatOf, soundOf}
+use Rattle.rules.specs.Rule.{keptAlive, soundOf}
 use Rattle.rules.proofs.Replies.{beats, fills, few, front-none}
 use borrow.Author.Needs.{needs}
 use Rattle.rules.proofs.sound.Statement.{statement}
@@ -42,7 +42,7 @@ same-length : tie.Need-same-length
 same-length c = search needs
 
 returns : tie.Need-returns
-unfolding soundOf beatOf
+unfolding soundOf keptAlive
 returns c =
     let a = c .before .before .before .before .before .before .before .before .before .before .before .args in
     let m = now (a .m) in

@@ -1,5 +1,5 @@
 use Rattle.laws.specs.Lists.{allPairs}
-use Rattle.subscription.specs.Rules.{apart}
+use Rattle.subscription.specs.Obeys.{apart}
 use Rattle.subscription.proofs.Entries.{apart-next, some-left, some-less}
 use Rattle.laws.proofs.Loops.{Pairing, pairing-none, pairing-more, pairing-not, pairing-end}
 use borrow.Author.Tests.{not-true, not-false}

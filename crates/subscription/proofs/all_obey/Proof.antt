@@ -1,5 +1,5 @@
 use Rattle.laws.specs.Lists.{all}
-use Rattle.subscription.specs.Rules.{entryObeys}
+use Rattle.subscription.specs.Obeys.{entryObeys}
 use Rattle.subscription.proofs.Entries.{obeys-past, obeys-not, obeys-more}
 use Rattle.laws.proofs.Loops.{Testing, testing-none, testing-end}
 use borrow.Author.Tests.{not-true, not-false}

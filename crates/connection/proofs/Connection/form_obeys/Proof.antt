@@ -1,4 +1,4 @@
-use Rattle.connection.specs.Rules.{formObeys}
+use Rattle.connection.specs.Obeys.{formObeys}
 use mathlib.Core.Path.{refl}
 use Rattle.connection.proofs.Connection.form_obeys.Statement.{statement}
 use Rattle.connection.proofs.Connection.form_obeys.Tie as tie

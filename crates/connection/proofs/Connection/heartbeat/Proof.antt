@@ -1,7 +1,7 @@
 use native.Mathlib.Omega.{arith}
 use Rattle.connection.proofs.Times.{told-seconds}
 use Rattle.laws.proofs.Conds.{tests}
-use Rattle.connection.specs.Supervision.{heartbeatOf}
+use Rattle.connection.specs.Supervision.{heartbeatKept}
 use Rattle.connection.proofs.Times.{beat-fits, seconds-fit}
 use borrow.Author.Needs.{needs}
 use Rattle.connection.proofs.Connection.heartbeat.Statement.{statement}
@@ -17,7 +17,7 @@ returns : tie.Need-returns
 returns c = search told-seconds
 
 returns-2 : tie.Need-returns-2
-unfolding heartbeatOf
+unfolding heartbeatKept
 returns-2 c = search tests
 
 pub heartbeat-spec : {M : Type 1} → statement M

@@ -1,4 +1,4 @@
-use Rattle.connection.specs.Rules.{isClosed}
+use Rattle.connection.specs.Obeys.{isClosed}
 use mathlib.Core.Path.{refl}
 use Rattle.connection.proofs.Connection.is_closed.Statement.{statement}
 use Rattle.connection.proofs.Connection.is_closed.Tie as tie

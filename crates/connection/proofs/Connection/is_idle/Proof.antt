@@ -1,4 +1,4 @@
-use Rattle.connection.specs.Rules.{isIdle}
+use Rattle.connection.specs.Obeys.{isIdle}
 use mathlib.Core.Path.{refl}
 use Rattle.connection.proofs.Connection.is_idle.Statement.{statement}
 use Rattle.connection.proofs.Connection.is_idle.Tie as tie

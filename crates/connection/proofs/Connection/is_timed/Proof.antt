@@ -1,4 +1,4 @@
-use Rattle.connection.specs.Rules.{isTimed}
+use Rattle.connection.specs.Obeys.{isTimed}
 use Rattle.connection.proofs.Times.{third}
 use borrow.Author.Needs.{needs}
 use Rattle.connection.proofs.Connection.is_timed.Statement.{statement}

@@ -1,4 +1,4 @@
-use Rattle.connection.specs.Rules.{connectionObeys}
+use Rattle.connection.specs.Obeys.{connectionObeys}
 use borrow.Author.Needs.{needs}
 use Rattle.connection.proofs.Connection.obeys.Statement.{statement}
 use Rattle.connection.proofs.Connection.obeys.Tie as tie

@@ -1,4 +1,4 @@
-use Rattle.device.specs.Rules.{deviceObeys}
+use Rattle.device.specs.Obeys.{deviceObeys}
 use borrow.Author.Needs.{needs}
 use Rattle.device.proofs.Device.obeys.Statement.{statement}
 use Rattle.device.proofs.Device.obeys.Tie as tie

@@ -1,4 +1,4 @@
-use Rattle.objects.specs.Answers.{toldOf}
+use Rattle.objects.specs.Answers.{answerWith}
 use mathlib.Core.Path.{refl}
 use borrow.Author.Needs.{needs}
 use Rattle.objects.proofs.Answer.byte.Statement.{statement}
@@ -8,7 +8,7 @@ array-write-bytes : tie.Need-array-write-bytes
 array-write-bytes c = search needs
 
 returns : tie.Need-returns
-unfolding toldOf
+unfolding answerWith
 returns c = refl
 
 pub byte-spec : {M : Type 1} → statement M

@@ -1,4 +1,4 @@
-use Rattle.objects.specs.Answers.{toldOf, identificationOf}
+use Rattle.objects.specs.Answers.{answerWith, identificationOf}
 use Rattle.objects.proofs.Shapes.{class-mute, class-device, class-subscription}
 use borrow.Author.Needs.{needs}
 use Rattle.objects.proofs.Answer.class.Statement.{statement}
@@ -8,18 +8,18 @@ is-mute-requires : tie.Need-is-mute-requires
 is-mute-requires c κs = search needs
 
 returns : tie.Need-returns
-unfolding toldOf identificationOf
+unfolding answerWith identificationOf
 returns c = search class-mute
 
 array-write-bytes : tie.Need-array-write-bytes
 array-write-bytes c = search needs
 
 returns-2 : tie.Need-returns-2
-unfolding toldOf identificationOf
+unfolding answerWith identificationOf
 returns-2 c = search class-device
 
 returns-3 : tie.Need-returns-3
-unfolding toldOf identificationOf
+unfolding answerWith identificationOf
 returns-3 c = search class-subscription
 
 pub class-spec : {M : Type 1} → statement M

@@ -1,4 +1,4 @@
-use Rattle.subscription.specs.Rules.{apart}
+use Rattle.subscription.specs.Obeys.{apart}
 use borrow.Author.Needs.{needs}
 use Rattle.subscription.proofs.Subscription.is_apart.Statement.{statement}
 use Rattle.subscription.proofs.Subscription.is_apart.Tie as tie

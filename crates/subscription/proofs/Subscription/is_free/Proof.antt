@@ -1,4 +1,4 @@
-use Rattle.subscription.specs.Rules.{isFree}
+use Rattle.subscription.specs.Obeys.{isFree}
 use mathlib.Core.Path.{refl}
 use Rattle.subscription.proofs.Subscription.is_free.Statement.{statement}
 use Rattle.subscription.proofs.Subscription.is_free.Tie as tie

@@ -2,9 +2,9 @@
 -- (ii), of the mechanism.
 use mathlib.Core.Bool.{Bool, _&&_}
 use Rattle.laws.specs.Lists.{all, allPairs}
-use Rattle.mechanism.specs.Rules.{mechanismObeys}
-use Rattle.connection.specs.Rules.{connectionObeys}
-use Rattle.subscription.specs.Rules.{entryObeys, apart}
+use Rattle.mechanism.specs.Obeys.{mechanismObeys}
+use Rattle.connection.specs.Obeys.{connectionObeys}
+use Rattle.subscription.specs.Obeys.{entryObeys, apart}
 use Rattle.objects.specs.Tests.{isMuteValue}
 use Rattle.holders.specs.Holders.{holderObeys}
 use Rattle.device.specs.declared.Device.{Device}

@@ -14,15 +14,15 @@ use Rattle.connection.specs.State.{liveAt, lowestDue}
 use Rattle.subscription.specs.State.{lowestWaiting}
 use Rattle.device.specs.State.{freshOf, openOf, closeOf}
 use Rattle.device.specs.Time.{tickOf}
-use Rattle.device.specs.Rules.{deviceObeys}
+use Rattle.device.specs.Obeys.{deviceObeys}
 use Rattle.device.specs.declared.Device.{Device}
 use Rattle.device.specs.declared.Opening.{Opening}
 use Rattle.device.specs.declared.Opening.the-variants as opens
 use Rattle.device.specs.declared.Ticking.{Ticking}
 use Rattle.device.specs.declared.Ticking.the-variants as ticks
 use Rattle.rules.specs.Rule.{Ruled, soundOf}
-use Rattle.stream.specs.Machine.{Call, deliver, ask, Whole, message, asked, Answer, more, refused, done, Held}
-use Rattle.stream.specs.Lent.{flat, counted}
+use Rattle.stream.specs.Machine.{Call, deliver, ask, Whole, handed, asked, Answer, more, denied, gave, Held}
+use Rattle.stream.specs.Lent.{flat, countsOf}
 use Rattle.endpoint.specs.State.{stateOf}
 use Rattle.endpoint.specs.Numbers.{noConnection, noRoom, tableFull, clockBack, overrun, Outcome, outcome}
 use Rattle.endpoint.specs.Calls.{openCall, closeCall, tickCall}
@@ -85,7 +85,7 @@ resetBy false d = (d, given (0 ∷ 0 ∷ []) [])
 
 -- THE RULES of document 01, and of document 02 (ii), when messages come whole
 unfoldable pub rule : Device → Asked → Device × Given
-rule d (message n m out) = messageBy (decide m) d n m out
+rule d (handed n m out) = messageBy (decide m) d n m out
 rule d (asked opening) = openBy (openOf d .answer) d (openOf d .device)
 rule d (asked (closing n)) = closeBy (liveAt (d .connections) n) d n
 rule d (asked (ticking reading)) = tickBy (tickOf d reading .answer) d (tickOf d reading .device)
@@ -106,7 +106,7 @@ bitOf mask (suc n) = bitOf (mask / 2) n
 
 -- whom an answer closes: a reset closes all
 unfoldable pub shut : Asked → Given → ℕ → Bool
-shut (message c m x) o n = cond (eqb (getD (o .answer) 0 0) 3) (eqb n c) false
+shut (handed c m x) o n = cond (eqb (getD (o .answer) 0 0) 3) (eqb n c) false
 shut (asked opening) o n = false
 shut (asked (closing c)) o n = cond (eqb (getD (o .answer) 0 0) 0) (eqb n c) false
 shut (asked (ticking t)) o n = cond (eqb (getD (o .answer) 0 0) 0) (bitOf (getD (o .answer) 1 0) n) false
@@ -134,10 +134,10 @@ withTaken k [] = []
 withTaken k (x ∷ rest) = 0 ∷ x ∷ k ∷ rest
 
 -- what a call is to give, where the machine over pieces comes to device d with h held and that answer
-unfoldable pub toldOf : Call Ask (List ℕ) → Device → Held → Answer Given → Outcome
-toldOf (deliver n piece out) d h more = outcome (0 ∷ 1 ∷ length piece ∷ []) (stateOf d (counted h 8)) (flat h 8) out
-toldOf (deliver n piece out) d h (refused q) = outcome (q ∷ []) (stateOf d (counted h 8)) (flat h 8) out
-toldOf (deliver n piece out) d h (done k o) = outcome (withTaken k (o .answer)) (stateOf d (counted h 8)) (flat h 8) (o .output)
-toldOf (ask a) d h more = outcome [] (stateOf d (counted h 8)) (flat h 8) []
-toldOf (ask a) d h (refused q) = outcome (q ∷ []) (stateOf d (counted h 8)) (flat h 8) []
-toldOf (ask a) d h (done k o) = outcome (o .answer) (stateOf d (counted h 8)) (flat h 8) (o .output)
+unfoldable pub outcomeOf : Call Ask (List ℕ) → Device → Held → Answer Given → Outcome
+outcomeOf (deliver n piece out) d h more = outcome (0 ∷ 1 ∷ length piece ∷ []) (stateOf d (countsOf h 8)) (flat h 8) out
+outcomeOf (deliver n piece out) d h (denied q) = outcome (q ∷ []) (stateOf d (countsOf h 8)) (flat h 8) out
+outcomeOf (deliver n piece out) d h (gave k o) = outcome (withTaken k (o .answer)) (stateOf d (countsOf h 8)) (flat h 8) (o .output)
+outcomeOf (ask a) d h more = outcome [] (stateOf d (countsOf h 8)) (flat h 8) []
+outcomeOf (ask a) d h (denied q) = outcome (q ∷ []) (stateOf d (countsOf h 8)) (flat h 8) []
+outcomeOf (ask a) d h (gave k o) = outcome (o .answer) (stateOf d (countsOf h 8)) (flat h 8) (o .output)

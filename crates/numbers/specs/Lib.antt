@@ -1,0 +1,5 @@
+pub mod Refusal
+pub mod Fault
+pub mod Kind
+pub mod Status
+pub mod Table
