@@ -159,7 +159,6 @@ fn is_measured_right() -> bool {
     (10_000..11_000).contains(&tried.deepest[0].get())
 }
 
-// No thread: with a second one the emulator is several times slower.
 fn main() -> ExitCode {
     if !is_measured_right() {
         println!("FAILED: a stack of known depth is not measured as such");

@@ -11,7 +11,7 @@ use std::sync::{Arc, Mutex};
 use std::thread::{self, JoinHandle};
 use std::time::{Duration, Instant};
 
-/// Long enough for an emulated machine that is busy.
+/// Long enough where the processor is busy.
 pub const PATIENCE: Duration = Duration::from_secs(20);
 
 /// What was printed so far.
