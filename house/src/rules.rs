@@ -59,7 +59,7 @@ pub fn check_comments(texts: &[Text], book: &Text) -> Vec<Finding> {
     found
 }
 
-/// The index: a line for each rule that a definition names.
+/// The index: a row for each file in which definitions name a rule, rule by rule.
 pub fn index(texts: &[Text]) -> Vec<String> {
     let mut rules: BTreeMap<u32, Vec<(String, Vec<String>)>> = BTreeMap::new();
     for text in texts.iter().filter(|t| t.is_spec()) {
@@ -74,65 +74,53 @@ pub fn index(texts: &[Text]) -> Vec<String> {
             }
         }
     }
-    let file = |(path, names): &(String, Vec<String>)| format!("`{path}`: {}", names.join(", "));
-    let line = |(r, files): (&u32, &Vec<(String, Vec<String>)>)| {
-        format!(
-            "- **R{r}** {}",
-            files.iter().map(file).collect::<Vec<_>>().join("; ")
-        )
+    let rows = |(r, files): (u32, Vec<(String, Vec<String>)>)| {
+        files
+            .into_iter()
+            .enumerate()
+            .map(move |(i, (path, names))| {
+                let rule = if i == 0 {
+                    format!("R{r} ")
+                } else {
+                    String::new()
+                };
+                format!("| {rule}| `{path}` | {} |", names.join(", "))
+            })
     };
-    rules.iter().map(line).collect()
+    rules.into_iter().flat_map(rows).collect()
 }
 
-fn is_index_line(line: &str) -> bool {
-    line.starts_with("- **R")
+/// Where the rows of the book's index begin: behind the head of its table.
+fn rows_start(book: &Text) -> usize {
+    let head = book.lines.iter().position(|l| l == INDEX).unwrap_or(0);
+    let line = book.lines[head..]
+        .iter()
+        .position(|l| l.starts_with("|---"));
+    line.map_or(book.lines.len(), |i| head + i + 1)
 }
 
 pub fn check_index(texts: &[Text], book: &Text) -> Vec<Finding> {
     let wanted = index(texts);
-    let start = book
-        .lines
-        .iter()
-        .position(|l| l == INDEX)
-        .unwrap_or(book.lines.len());
-    let there: Vec<&String> = book.lines[start..]
-        .iter()
-        .filter(|l| is_index_line(l))
-        .collect();
-    if there.iter().copied().eq(wanted.iter()) {
+    let start = rows_start(book);
+    let there = &book.lines[start..];
+    if there == wanted.as_slice() {
         return Vec::new();
     }
-    let line = there
+    let same = there
         .iter()
         .zip(&wanted)
-        .position(|(a, b)| *a != b)
-        .unwrap_or(there.len().min(wanted.len()));
-    let first = wanted.get(line).map_or("nothing", |w| w.as_str());
-    vec![finding(
-        &book.path,
-        start + 1,
-        format!("the index is not that of the comments, first where it should say: {first}"),
-    )]
+        .take_while(|(a, b)| a == b)
+        .count();
+    let row = wanted.get(same).map_or("nothing more", |w| w.as_str());
+    let what = format!(
+        "the index is not that of the comments (write it by --index); here should be: {row}"
+    );
+    vec![finding(&book.path, start + same + 1, what)]
 }
 
 /// The book with the index that the comments make.
 pub fn with_index(texts: &[Text], book: &Text) -> String {
-    let start = book
-        .lines
-        .iter()
-        .position(|l| l == INDEX)
-        .map_or(book.lines.len(), |i| i + 1);
-    let mut lines: Vec<String> = book.lines[..start].to_vec();
-    lines.extend(
-        book.lines[start..]
-            .iter()
-            .filter(|l| !is_index_line(l))
-            .cloned(),
-    );
-    while lines.last().is_some_and(|l| l.is_empty()) {
-        lines.pop();
-    }
-    lines.push(String::new());
+    let mut lines = book.lines[..rows_start(book)].to_vec();
     lines.extend(index(texts));
     lines.join("\n") + "\n"
 }
@@ -144,7 +132,7 @@ mod tests {
     fn book() -> Text {
         Text::new(
             "docs/RULES.md",
-            "**R1. One.** (01)\n**R2. Two.** (01)\n\n## Index\n\nWords.\n\n- **R1** `a/specs/A.antt`: `x`\n",
+            "**R1. One.** (01)\n**R2. Two.** (01)\n\n## Index\n\nWords.\n\n| rule | file | definitions |\n|---|---|---|\n| R1 | `a/specs/A.antt` | `x` |\n",
         )
     }
 
