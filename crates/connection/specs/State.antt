@@ -20,6 +20,9 @@ opened = record { live = true; form = 0; beat = 0; silence = 0; quiet = 0; due =
 unfoldable pub liveAt : List Connection → ℕ → Bool
 liveAt cs n = getD cs n closed .live
 
+abbrev pub isLive : Connection → Bool
+isLive c = c .live
+
 unfoldable pub isNotOpen : Connection → Bool
 isNotOpen c = not (c .live)
 

@@ -1,11 +1,11 @@
 -- The device: fresh, opening, closing. Document 01 'What is built' and 'Time and supervision'.
 use Prim.Native.Nat.{ℕ}
-use mathlib.Core.Bool.{cond}
+use mathlib.Core.Bool.{Bool, cond}
 use mathlib.Core.List.{List, map}
 use lib.ListN.{getD, set, replicate}
 use Rattle.laws.specs.Lists.{any}
 use Rattle.heartbeat.specs.declared.Heartbeat.{Heartbeat}
-use Rattle.connection.specs.State.{connectionCount, closed, opened, liveAt, isNotOpen, lowestFree}
+use Rattle.connection.specs.State.{connectionCount, closed, opened, liveAt, isLive, isNotOpen, lowestFree}
 use Rattle.connection.specs.Supervision.{heardOf, sentOf, beatingOf}
 use Rattle.connection.specs.declared.Connection.{Connection}
 use Rattle.mechanism.specs.State.{disarmed}
@@ -78,6 +78,10 @@ withMechanism d m =
       holders = d .holders;
       mechanism = m;
     }
+
+-- of each connection, whether it is open
+unfoldable pub livesIn : Device → List Bool
+livesIn d = map isLive (d .connections)
 
 -- "Opening gives the lowest free number with all counts zero"; "TableFull: opening with 8 open"
 unfoldable pub openOf : Device → Opened

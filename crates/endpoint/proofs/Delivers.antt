@@ -10,10 +10,11 @@ use Rattle.frame.specs.declared.Decision.the-variants.{Undecided, Faulty, Sound
 use Rattle.layout.specs.Message.{atFront}
 use borrow.Author.Tests.{lt-ltb, le-ltb, not-true, not-false}
 use Rattle.area.specs.Area.{partAt, areaSound, undecidedOf, partCleared}
-use Rattle.connection.specs.State.{liveAt}
+use Rattle.connection.specs.State.{liveAt, isLive}
 use Rattle.device.specs.declared.Device.{Device}
-use Rattle.rules.specs.Rule.{Ruled, soundOf}
-use Rattle.endpoint.specs.State.{stateOf, isLive, livesIn, recordObeys, closedState}
+use Rattle.serve.specs.Sound.{Ruled, soundOf}
+use Rattle.device.specs.State.{livesIn}
+use Rattle.endpoint.specs.State.{stateOf, recordObeys, closedState}
 use Rattle.endpoint.specs.Numbers.{badRecord, badArea, noConnection, noRoom, deliveryNumbers, Outcome, outcome, refused}
 use Rattle.endpoint.specs.Deliver.{leastOutput, heldAt, messaged, deliveredBy, takenIn, deliverCall, Lying}
 use Rattle.endpoint.specs.declared.Record.{Record}

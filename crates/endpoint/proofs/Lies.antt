@@ -17,7 +17,8 @@ use Rattle.frame.specs.Limits.{greatestSize}
 use Rattle.frame.specs.Decide.{decide, settled}
 use Rattle.area.specs.Area.{partBytes, areaBytes, partAt, partSound, partsSound, areaSound, undecidedOf, ZerosBehind, countObeys, heldObeys}
 use Rattle.device.specs.Obeys.{deviceObeys}
-use Rattle.endpoint.specs.State.{livesIn, recordObeys}
+use Rattle.device.specs.State.{livesIn}
+use Rattle.endpoint.specs.State.{recordObeys}
 use Rattle.endpoint.specs.Deliver.{heldAt, Lying}
 use Rattle.endpoint.specs.declared.Record.{Record}
 use Rattle.endpoint.proofs.States.{area-long}

@@ -15,13 +15,13 @@ use Rattle.octets.specs.Zeros.{zeros}
 use Rattle.area.specs.Area.{areaBytes, partsSound, areaSound, partCleared, closedCleared, heldKept}
 use Rattle.connection.specs.State.{closed, liveAt}
 use Rattle.connection.specs.declared.Connection.{Connection}
-use Rattle.device.specs.State.{openOf}
+use Rattle.device.specs.State.{openOf, livesIn}
 use Rattle.device.specs.Time.{tickOf}
 use Rattle.device.specs.declared.Opened.{Opened}
 use Rattle.device.specs.declared.Opening.the-variants as opening
 use Rattle.device.specs.declared.Ticked.{Ticked}
 use Rattle.device.specs.declared.Ticking.the-variants as ticking
-use Rattle.endpoint.specs.State.{stateOf, livesIn, recordObeys, closedState}
+use Rattle.endpoint.specs.State.{stateOf, recordObeys, closedState}
 use Rattle.endpoint.specs.Numbers.{badRecord, badArea, noConnection, tableFull, clockBack, overrun, Outcome, outcome, refused}
 use Rattle.endpoint.specs.Calls.{clearAnswer, clearedArea, openedBy, openCall, closeCall, tickedBy, tickCall}
 use Rattle.endpoint.specs.declared.Record.{Record}

@@ -28,11 +28,11 @@ use Rattle.objects.specs.Tests.{isMuteValue}
 use Rattle.holders.specs.Holders.{holderObeys}
 use Rattle.heartbeat.specs.declared.Heartbeat.{Heartbeat}
 use Rattle.replies.specs.Bytes.{notificationBytes, keepAliveBytes}
-use Rattle.device.specs.State.{withSubscriptions, sentAt}
+use Rattle.device.specs.State.{withSubscriptions, sentAt, livesIn}
 use Rattle.device.specs.Obeys.{deviceObeys}
 use Rattle.device.specs.Run.{muteAt}
 use Rattle.device.specs.declared.Device.{Device}
-use Rattle.endpoint.specs.State.{stateOf, livesIn, recordObeys}
+use Rattle.endpoint.specs.State.{stateOf, recordObeys}
 use Rattle.endpoint.specs.Numbers.{takingNumbers, Outcome, outcome}
 use Rattle.endpoint.specs.Deliver.{leastOutput}
 use Rattle.endpoint.specs.Take.{subscriptionAt, notifiedOf, sentOut, notifying, reminding, takenBy, takeCall}

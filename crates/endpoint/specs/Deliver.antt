@@ -14,7 +14,7 @@ use Rattle.frame.specs.declared.Decision.the-variants.{Undecided, Faulty, Sound
 use Rattle.layout.specs.Message.{atFront}
 use Rattle.area.specs.Area.{partBytes, areaBytes, partAt, areaSound, undecidedOf, ZerosBehind, partCleared}
 use Rattle.connection.specs.State.{liveAt}
-use Rattle.rules.specs.Rule.{Ruled, soundOf}
+use Rattle.serve.specs.Sound.{Ruled, soundOf}
 use Rattle.endpoint.specs.State.{stateOf, recordObeys, closedState}
 use Rattle.endpoint.specs.Numbers.{badRecord, badArea, noConnection, noRoom, Outcome, outcome, refused}
 use Rattle.endpoint.specs.declared.Record.{Record}

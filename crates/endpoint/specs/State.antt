@@ -1,13 +1,12 @@
 -- The endpoint's record and its rules: document 01 'What is built' and 'What calls refuse', "Record rules".
 use Prim.Native.Nat.{ℕ}
 use mathlib.Core.Bool.{Bool, _&&_}
-use mathlib.Core.List.{List, map}
+use mathlib.Core.List.{List}
 use lib.ListN.{set}
 use Rattle.octets.specs.Zeros.{zeros}
 use Rattle.area.specs.Area.{heldObeys}
 use Rattle.connection.specs.State.{connectionCount}
-use Rattle.connection.specs.declared.Connection.{Connection}
-use Rattle.device.specs.State.{freshOf, closeOf}
+use Rattle.device.specs.State.{freshOf, livesIn, closeOf}
 use Rattle.device.specs.Obeys.{deviceObeys}
 use Rattle.device.specs.declared.Device.{Device}
 use Rattle.endpoint.specs.declared.Record.{Record}
@@ -18,13 +17,6 @@ stateOf d held = record { device = d; held = held }
 -- "Fresh takes a first reading; its record keeps the record rules, with every connection closed"
 unfoldable pub freshState : ℕ → Record
 freshState reading = stateOf (freshOf reading) (zeros connectionCount)
-
--- of each connection, whether it is open
-abbrev pub isLive : Connection → Bool
-isLive c = c .live
-
-unfoldable pub livesIn : Device → List Bool
-livesIn d = map isLive (d .connections)
 
 -- "1 BadRecord: a record rule is broken", the other way round
 unfoldable pub recordObeys : Record → Bool

@@ -9,7 +9,7 @@ ghost use Prim.Native.Nat.{_-_, _<_, _≤_, min};
 ghost use lib.ListN.{length, set};
 ghost use Rattle.frame.specs.Decide.{decide};
 ghost use Rattle.area.specs.Area.{undecidedOf};
-ghost use Rattle.rules.specs.Rule.{soundOf};
+ghost use Rattle.serve.specs.Sound.{soundOf};
 ghost use Rattle.endpoint.specs.State.{stateOf};
 ghost use Rattle.endpoint.specs.Numbers.{deliveryNumbers, outcome};
 ghost use Rattle.endpoint.specs.Deliver.{leastOutput, heldAt, Lying, MessageLies, gathered, messaged, takenIn, deliverCall};
@@ -58,7 +58,7 @@ impl Record {
         let base = at * area::PART;
         let end = base + t;
         let device = self.device;
-        let ruling = rules::sound(device, n, &area[base..end], output);
+        let ruling = serve::sound(device, n, &area[base..end], output);
         area::clear_used(area, at, used);
         let next = ruling.device;
         let mut held = self.held;

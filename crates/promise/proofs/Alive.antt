@@ -25,14 +25,14 @@ use Rattle.connection.proofs.Keeps.{supervision-kept}
 use Rattle.subscription.specs.State.{isWaiting, toldOf, lowestWaiting}
 use Rattle.subscription.specs.declared.Subscription.{Subscription}
 use Rattle.replies.specs.Bytes.{keepAliveBytes, notificationBytes}
-use Rattle.device.specs.State.{heardAt, sentAt, toldAt}
+use Rattle.device.specs.State.{heardAt, sentAt, toldAt, livesIn}
 use Rattle.device.specs.Obeys.{deviceObeys}
 use Rattle.device.specs.Run.{muteAt}
 use Rattle.device.specs.declared.Device.{Device}
 use Rattle.device.proofs.Keeps.{rules-kept}
-use Rattle.rules.specs.Rule.{soundOf}
+use Rattle.serve.specs.Sound.{soundOf}
 use Rattle.stream.specs.Machine.{ask}
-use Rattle.endpoint.specs.State.{stateOf, livesIn, recordObeys}
+use Rattle.endpoint.specs.State.{stateOf, recordObeys}
 use Rattle.endpoint.specs.Numbers.{Outcome, refused}
 use Rattle.endpoint.specs.Calls.{tickCall}
 use Rattle.endpoint.specs.Deliver.{leastOutput, heldAt, messaged, deliveredBy, takenIn, deliverCall}

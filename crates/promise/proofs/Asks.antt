@@ -14,7 +14,7 @@ use Rattle.connection.specs.State.{connectionCount, closed, liveAt, lowestDue}
 use Rattle.connection.specs.Supervision.{fitsStep, closesAt, connectionTicked}
 use Rattle.frame.specs.Decide.{decide, settled}
 use Rattle.subscription.specs.State.{entryCount, lowestWaiting}
-use Rattle.device.specs.State.{freshOf, openOf, closeOf, sweepOf, sentAt, toldAt}
+use Rattle.device.specs.State.{freshOf, openOf, closeOf, sweepOf, sentAt, toldAt, livesIn}
 use Rattle.device.specs.Time.{stepOf, advanced, tickStep, tickOf}
 use Rattle.device.specs.declared.Device.{Device}
 use Rattle.device.specs.declared.Opening.{Opening}
@@ -25,7 +25,7 @@ use Rattle.device.specs.declared.Ticked.{Ticked}
 use Rattle.stream.specs.Machine.{Call, deliver, ask, Whole, handed, asked, Answer, more, denied, gave, Held, none-held, put, only, whole, delivered, step}
 use Rattle.stream.specs.Lent.{flat, countsOf, livesOf}
 use Rattle.stream.proofs.Lent.{put-same, put-other, set-counted, clear-flat, closed-flat, held-counted, counted-none, flat-none}
-use Rattle.endpoint.specs.State.{stateOf, freshState, livesIn, recordObeys, closedState}
+use Rattle.endpoint.specs.State.{stateOf, freshState, recordObeys, closedState}
 use Rattle.endpoint.specs.Numbers.{Outcome, outcome}
 use Rattle.endpoint.specs.Calls.{openedBy, openCall, closeCall, tickedBy, tickCall}
 use Rattle.endpoint.specs.Deliver.{leastOutput, takenIn, deliverCall}

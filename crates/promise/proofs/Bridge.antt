@@ -16,7 +16,7 @@ use Rattle.area.specs.Area.{partBytes, partAt, areaSound, undecidedOf, partClea
 use Rattle.connection.specs.State.{liveAt}
 use Rattle.device.specs.State.{closeOf}
 use Rattle.device.specs.declared.Device.{Device}
-use Rattle.rules.specs.Rule.{Ruled, soundOf}
+use Rattle.serve.specs.Sound.{Ruled, soundOf}
 use Rattle.stream.specs.Machine.{Call, deliver, ask, Whole, handed, asked, Answer, more, denied, gave, Held, put, only, whole, delivered, step}
 use Rattle.stream.specs.Lent.{flat, countsOf}
 use Rattle.stream.proofs.Lent.{Small, put-same, put-other, getD-counted, set-counted, undecided-flat, clear-flat, put-flat, area-flat}

@@ -27,7 +27,7 @@ use Rattle.subscription.specs.declared.Subscription.{Subscription}
 use Rattle.subscription.proofs.Keeps as entries
 use Rattle.subscription.proofs.Keeps.{entry-view, free-unused}
 use Rattle.holders.specs.Holders.{holderObeys}
-use Rattle.device.specs.State.{withConnections, openOf, sweepOf, closeOf}
+use Rattle.device.specs.State.{withConnections, openOf, sweepOf, closeOf, livesIn}
 use Rattle.device.specs.Obeys.{deviceObeys}
 use Rattle.device.specs.Time.{tickOf}
 use Rattle.device.specs.Closure.{isLockOf, isEntryOf, locksOf, subscriptionsOf, noLocks, noEntries, Gone, Stays}
@@ -38,7 +38,7 @@ use Rattle.stream.specs.Machine.{Held, put, only}
 use Rattle.stream.specs.Lent.{partHolding, flat, countsOf}
 use Rattle.stream.proofs.Lent.{Small, put-same, put-other, getD-counted, set-counted, part-flat, clear-flat}
 use Rattle.stream.proofs.Stream.{put-elim}
-use Rattle.endpoint.specs.State.{stateOf, livesIn, recordObeys, closedState}
+use Rattle.endpoint.specs.State.{stateOf, recordObeys, closedState}
 use Rattle.endpoint.specs.Numbers.{Outcome}
 use Rattle.endpoint.specs.Calls.{openedBy, openCall, closeCall, tickedBy, tickCall}
 use Rattle.endpoint.specs.Deliver.{leastOutput, heldAt, messaged, deliveredBy, takenIn, deliverCall}

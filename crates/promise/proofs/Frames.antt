@@ -38,7 +38,7 @@ use Rattle.device.proofs.Commands.{arm-status}
 use Rattle.device.proofs.Shapes.{arm-at, status-allowed}
 use Rattle.replies.specs.Bytes.{responseBytes, keepAliveBytes}
 use Rattle.serve.specs.Serve.{ranWith, ranFirst, lastOf, responseTo, responsesOf}
-use Rattle.rules.specs.Rule.{Ruled, ruled, commandsOf, keptAlive, soundOf}
+use Rattle.serve.specs.Sound.{Ruled, ruled, commandsOf, keptAlive, soundOf}
 use Rattle.promise.specs.Key.{isArming, keyedBy, keyedWith, keyedOver, keyedIn}
 
 -- ---- a command that arms

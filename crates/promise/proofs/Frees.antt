@@ -47,7 +47,7 @@ use Rattle.device.proofs.Closures.{free-locks}
 use Rattle.device.proofs.Shapes.{target-is, status-allowed}
 use Rattle.device.proofs.Commands.{lock-other, lock-done}
 use Rattle.serve.specs.Serve.{ranWith, ranFirst, lastOf}
-use Rattle.rules.specs.Rule.{Ruled, commandsOf, keptAlive, soundOf}
+use Rattle.serve.specs.Sound.{Ruled, commandsOf, keptAlive, soundOf}
 use Rattle.stream.specs.Machine.{Call, ask, handed, asked, none-held, glue, rules}
 use Rattle.stream.specs.Promise.{AllBytes}
 use Rattle.stream.specs.Lent.{flat, countsOf}

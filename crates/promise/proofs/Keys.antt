@@ -25,7 +25,7 @@ use Rattle.mechanism.specs.declared.Mechanism.{Mechanism}
 use Rattle.mechanism.proofs.Kept.{mechanism-kept}
 use Rattle.connection.specs.State.{connectionCount, liveAt, lowestDue}
 use Rattle.subscription.specs.State.{entryCount, lowestWaiting}
-use Rattle.device.specs.State.{freshOf, withMechanism, openOf, closeOf, sweepOf, sentAt, toldAt}
+use Rattle.device.specs.State.{freshOf, withMechanism, openOf, closeOf, sweepOf, sentAt, toldAt, livesIn}
 use Rattle.device.specs.Obeys.{deviceObeys}
 use Rattle.device.specs.Time.{tickOf}
 use Rattle.device.specs.Run.{muteAt}
@@ -38,11 +38,11 @@ use Rattle.device.specs.declared.Ticked.{Ticked}
 use Rattle.device.specs.declared.Ticking.{Ticking}
 use Rattle.device.specs.declared.Ticking.the-variants as ticks
 use Rattle.device.specs.declared.Ran.{Ran}
-use Rattle.rules.specs.Rule.{Ruled, soundOf}
+use Rattle.serve.specs.Sound.{Ruled, soundOf}
 use Rattle.stream.specs.Machine.{Call, deliver, ask, handed, asked, Held, glue, rules}
 use Rattle.stream.specs.Promise.{AllBytes}
 use Rattle.stream.specs.Lent.{flat, countsOf}
-use Rattle.endpoint.specs.State.{stateOf, livesIn, recordObeys, closedState}
+use Rattle.endpoint.specs.State.{stateOf, recordObeys, closedState}
 use Rattle.endpoint.specs.Numbers.{Outcome, outcome}
 use Rattle.endpoint.specs.Calls.{openedBy, openCall, closeCall, tickedBy, tickCall}
 use Rattle.endpoint.specs.Deliver.{leastOutput, messaged, deliveredBy, takenIn, deliverCall}

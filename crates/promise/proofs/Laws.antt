@@ -22,7 +22,7 @@ use Rattle.connection.specs.Kept.{SupervisionKept}
 use Rattle.connection.specs.declared.Connection.{Connection}
 use Rattle.connection.proofs.Keeps.{supervision-kept}
 use Rattle.subscription.specs.State.{entryCount, lowestWaiting}
-use Rattle.device.specs.State.{freshOf, withConnections, openOf, closeOf, sweepOf, sentAt, toldAt}
+use Rattle.device.specs.State.{freshOf, withConnections, openOf, closeOf, sweepOf, sentAt, toldAt, livesIn}
 use Rattle.device.specs.Obeys.{deviceObeys}
 use Rattle.device.specs.Time.{stepOf, advanced, tickStep, tickOf}
 use Rattle.device.specs.declared.Device.{Device}
@@ -33,11 +33,11 @@ use Rattle.device.specs.declared.Ticked.{Ticked}
 use Rattle.device.specs.declared.Ticking.{Ticking}
 use Rattle.device.specs.declared.Ticking.the-variants as ticks
 use Rattle.device.proofs.Keeps.{rules-kept}
-use Rattle.rules.specs.Rule.{Ruled, soundOf}
-use Rattle.rules.proofs.Keeps.{sound-kept}
+use Rattle.serve.specs.Sound.{Ruled, soundOf}
+use Rattle.serve.proofs.Keeps.{sound-kept}
 use Rattle.stream.specs.Machine.{Whole, handed, asked}
 use Rattle.stream.specs.Promise.{Decides, Apt, Laws}
-use Rattle.endpoint.specs.State.{stateOf, livesIn}
+use Rattle.endpoint.specs.State.{stateOf}
 use Rattle.endpoint.specs.Numbers.{Outcome, outcome}
 use Rattle.endpoint.specs.Deliver.{leastOutput}
 use Rattle.endpoint.specs.Take.{subscriptionAt, notifiedOf, sentOut, notifying, reminding, takenBy}

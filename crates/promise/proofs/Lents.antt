@@ -25,7 +25,8 @@ use Rattle.stream.specs.Machine.{Held}
 use Rattle.stream.specs.Lent.{partHolding, flat, countsOf}
 use Rattle.stream.proofs.Lent.{length-counted, getD-counted}
 use Rattle.stream.proofs.Bytes.{octets-nil}
-use Rattle.endpoint.specs.State.{livesIn, recordObeys}
+use Rattle.device.specs.State.{livesIn}
+use Rattle.endpoint.specs.State.{recordObeys}
 use Rattle.endpoint.specs.Deliver.{heldAt, Lying}
 use Rattle.endpoint.specs.declared.Record.{Record}
 use Rattle.endpoint.proofs.States.{area-long}

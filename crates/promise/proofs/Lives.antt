@@ -14,23 +14,23 @@ use Rattle.frame.specs.Decide.{decide, settled}
 use Rattle.frame.proofs.Ways.{deciding, unsettled}
 use Rattle.area.specs.Area.{countObeys, heldObeys}
 use Rattle.laws.specs.Lists.{any}
-use Rattle.connection.specs.State.{connectionCount, closed, opened, liveAt, isNotOpen, lowestFree}
+use Rattle.connection.specs.State.{connectionCount, closed, opened, liveAt, isNotOpen, lowestFree, isLive}
 use Rattle.connection.specs.declared.Connection.{Connection}
-use Rattle.device.specs.State.{freshOf, withConnections, openOf, closeOf, sentAt, toldAt}
+use Rattle.device.specs.State.{freshOf, withConnections, openOf, closeOf, sentAt, toldAt, livesIn}
 use Rattle.device.specs.Obeys.{deviceObeys}
 use Rattle.device.specs.Closure.{ClosureFrees, Gone}
 use Rattle.device.specs.declared.Device.{Device}
 use Rattle.device.specs.declared.Opened.{Opened}
 use Rattle.device.specs.declared.Opening.the-variants.{Number, Full}
-use Rattle.rules.specs.Rule.{Ruled, soundOf}
-use Rattle.rules.proofs.Keeps.{sound-kept}
+use Rattle.serve.specs.Sound.{Ruled, soundOf}
+use Rattle.serve.proofs.Keeps.{sound-kept}
 use Rattle.device.proofs.Closures.{closure-frees}
 use Rattle.stream.specs.Machine.{Held, put, only}
 use Rattle.stream.specs.Lent.{flat, countsOf, livesOf}
 use Rattle.stream.specs.Promise.{Good}
 use Rattle.stream.proofs.Lent.{put-same, put-other, length-counted, getD-counted, length-lives-of, getD-lives-of}
 use Rattle.stream.proofs.Stream.{put-elim}
-use Rattle.endpoint.specs.State.{stateOf, isLive, livesIn, recordObeys}
+use Rattle.endpoint.specs.State.{stateOf, recordObeys}
 use Rattle.promise.specs.Rulebook.{rule, open?, admit, shut, Fine}
 
 abbrev pub GoodAt : Device → Held → Type 0

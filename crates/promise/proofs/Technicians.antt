@@ -29,12 +29,12 @@ use Rattle.subscription.specs.State.{entryCount, free, twinAt, lowestUnused, lo
 use Rattle.objects.specs.Methods.{lockMethod, unlockMethod, setMethod, addMethod, removeMethod, resetKeyMethod, placeOf, isObject, isLocking, hasMethod}
 use Rattle.objects.specs.Tests.{isForbidden, isMalformed, subscriptionFrom, isEmitterBad, isValueBad}
 use Rattle.serve.specs.Serve.{ranWith, ranFirst, lastOf}
-use Rattle.rules.specs.Rule.{Ruled, commandsOf, keptAlive, soundOf}
+use Rattle.serve.specs.Sound.{Ruled, commandsOf, keptAlive, soundOf}
 use Rattle.frame.specs.Limits.{headerEnd, notification, keepAlive}
 use Rattle.frame.specs.Header.{pduType, messageCount}
 use Rattle.frame.specs.Entry.{entrySize}
 use Rattle.fields.specs.Fields.{heartbeatOf}
-use Rattle.device.specs.State.{sweepOf, openOf, closeOf, atConnection, withSubscriptions, withHolders, withMechanism, heardAt, sentAt, toldAt, beatingAt}
+use Rattle.device.specs.State.{sweepOf, openOf, closeOf, atConnection, withSubscriptions, withHolders, withMechanism, heardAt, sentAt, toldAt, beatingAt, livesIn}
 use Rattle.device.specs.Run.{holderAt, muteAt, isHeldByOther, isOutOfTurn, isFull, statusOf, mutedOf, doneOf, answerOf, unchanged, ranBy, runOf}
 use Rattle.device.specs.declared.Opened.{Opened}
 use Rattle.device.specs.declared.Opening.{Opening}
@@ -49,7 +49,7 @@ use Rattle.device.proofs.Keeps.{rules-kept}
 use Rattle.device.proofs.Closures.{closure-frees}
 use Rattle.device.proofs.Commands.{lock-other}
 use Rattle.stream.specs.Machine.{Call, deliver, ask, asked}
-use Rattle.endpoint.specs.State.{livesIn, recordObeys, closedState}
+use Rattle.endpoint.specs.State.{recordObeys, closedState}
 use Rattle.endpoint.specs.Numbers.{clockBack, Outcome, refused}
 use Rattle.endpoint.specs.Calls.{openedBy, openCall, closeCall, tickedBy, tickCall}
 use Rattle.endpoint.specs.Deliver.{leastOutput, heldAt, messaged, deliveredBy, takenIn, deliverCall}

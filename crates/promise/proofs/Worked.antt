@@ -30,8 +30,8 @@ use Rattle.device.specs.State.{freshOf, openOf, sweepOf, closeOf, heardAt, sent
 use Rattle.device.specs.Time.{tickStep}
 use Rattle.device.specs.Run.{holderAt, muteAt, isHeldByOther, isSubscribed, isOutOfTurn, isFull, statusOf, mutedOf, doneOf, answerOf, ranBy, runOf}
 use Rattle.serve.specs.Serve.{ranWith, ranFirst, lastOf, responseTo, responsesOf}
-use Rattle.rules.specs.Rule.{commandsOf, soundOf}
-use Rattle.rules.specs.Rule as ruling
+use Rattle.serve.specs.Sound.{commandsOf, soundOf}
+use Rattle.serve.specs.Sound as ruling
 use Rattle.endpoint.specs.Take.{notifiedOf, sentOut, notifying, reminding, takenBy}
 use Rattle.promise.specs.Rulebook.{messageBy, openBy, closeBy, takeBy, resetBy, rule}
 use Rattle.promise.specs.Rulebook as rules

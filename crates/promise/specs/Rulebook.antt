@@ -20,7 +20,7 @@ use Rattle.device.specs.declared.Opening.{Opening}
 use Rattle.device.specs.declared.Opening.the-variants as opens
 use Rattle.device.specs.declared.Ticking.{Ticking}
 use Rattle.device.specs.declared.Ticking.the-variants as ticks
-use Rattle.rules.specs.Rule.{Ruled, soundOf}
+use Rattle.serve.specs.Sound.{Ruled, soundOf}
 use Rattle.stream.specs.Machine.{Call, deliver, ask, Whole, handed, asked, Answer, more, denied, gave, Held}
 use Rattle.stream.specs.Lent.{flat, countsOf}
 use Rattle.endpoint.specs.State.{stateOf}

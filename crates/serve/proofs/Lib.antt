@@ -1,2 +1,4 @@
 pub mod Answers
 pub mod Serves
+pub mod Replies
+pub mod Keeps

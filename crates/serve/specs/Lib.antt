@@ -1,1 +1,3 @@
 pub mod Serve
+pub mod Sound
+pub mod Kept

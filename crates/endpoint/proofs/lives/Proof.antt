@@ -1,8 +1,8 @@
 use mathlib.Core.Path.{refl}
 use native.Mathlib.Omega.{arith}
-use Rattle.connection.specs.State.{closed}
+use Rattle.connection.specs.State.{closed, isLive}
 use Rattle.laws.proofs.Tables.{length-mapped}
-use Rattle.endpoint.specs.State.{isLive, livesIn}
+use Rattle.device.specs.State.{livesIn}
 use Rattle.endpoint.proofs.States.{Filling, filling-none, filling-more, filling-all}
 use Prim.Native.Nat.{_-_}
 use borrow.Author.Needs.{needs}

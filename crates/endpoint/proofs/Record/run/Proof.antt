@@ -5,7 +5,7 @@ use mathlib.Core.Path.{_≡_}
 use lib.ListN.{length, take, drop, length-drop}
 use lib.Seq.{length-take-le}
 use Rattle.area.specs.Area.{partAt, undecidedOf}
-use Rattle.rules.specs.Rule.{soundOf}
+use Rattle.serve.specs.Sound.{soundOf}
 use Rattle.endpoint.proofs.Delivers.{messaged-is}
 use borrow.Author.Needs.{needs}
 use Rattle.endpoint.proofs.Record.run.Statement.{statement}

@@ -20,9 +20,9 @@ use Rattle.layout.specs.Message.{headBytes, message, atFront}
 use Rattle.layout.proofs.Messages.{length-head, length-message, put-whole}
 use Rattle.device.specs.State.{sentAt}
 use Rattle.device.specs.declared.Device.{Device}
 use Rattle.serve.specs.Serve.{lastOf, responsesOf}
 use Rattle.serve.proofs.Serves.{responses-few}
-use Rattle.rules.specs.Rule.{Ruled, ruled, commandsOf}
+use Rattle.serve.specs.Sound.{Ruled, ruled, commandsOf}
 
 -- no more commands than a seventeenth of the bytes: 119 fit
 entries-many : (n kind : ℕ) (t : List ℕ) → kind < 2 → entriesFill n kind t ≡ true → n * 17 ≤ length t

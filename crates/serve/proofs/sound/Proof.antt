@@ -9,11 +9,11 @@ use Rattle.frame.specs.Limits.{headerEnd, notification, keepAlive}
 use Rattle.frame.specs.Header.{pduType, messageCount}
 use Rattle.fields.specs.Fields.{heartbeatOf}
 use Rattle.device.specs.State.{heardAt}
-use Rattle.rules.specs.Rule.{keptAlive, soundOf}
-use Rattle.rules.proofs.Replies.{beats, fills, few, front-none}
+use Rattle.serve.specs.Sound.{keptAlive, soundOf}
+use Rattle.serve.proofs.Replies.{beats, fills, few, front-none}
 use borrow.Author.Needs.{needs}
-use Rattle.rules.proofs.sound.Statement.{statement}
-use Rattle.rules.proofs.sound.Tie as tie
+use Rattle.serve.proofs.sound.Statement.{statement}
+use Rattle.serve.proofs.sound.Tie as tie
 
 shared-slice-read-kind : tie.Need-shared-slice-read-kind
 shared-slice-read-kind c = search needs

@@ -19,21 +19,21 @@ use Rattle.frame.specs.Header.{pduType, messageCount}
 use Rattle.frame.specs.Entry.{entrySize}
 use Rattle.frame.specs.Sound.{SoundAt}
 use Rattle.fields.specs.Fields.{heartbeatOf}
-use Rattle.connection.specs.State.{closed, liveAt}
+use Rattle.connection.specs.State.{closed, liveAt, isLive}
 use Rattle.connection.specs.Obeys.{topMilliseconds}
 use Rattle.connection.specs.Supervision.{heardOf, sentOf, setBeat, supervised, beatingOf}
 use Rattle.connection.specs.Kept.{fitsForm}
 use Rattle.connection.specs.declared.Connection.{Connection}
 use Rattle.objects.specs.Answers.{failedOf}
-use Rattle.device.specs.State.{atConnection, heardAt, sentAt, toldAt, beatingAt}
+use Rattle.device.specs.State.{atConnection, livesIn, heardAt, sentAt, toldAt, beatingAt}
 use Rattle.device.specs.Obeys.{deviceObeys}
 use Rattle.device.specs.Run.{mutedOf, doneOf, answerOf, unchanged, ranBy, runOf}
 use Rattle.device.specs.declared.Device.{Device}
 use Rattle.device.specs.declared.Ran.{Ran}
 use Rattle.device.proofs.Keeps.{rules-kept}
 use Rattle.serve.specs.Serve.{ranWith, ranFirst, lastOf}
-use Rattle.rules.specs.Rule.{Ruled, commandsOf, keptAlive, soundOf}
-use Rattle.rules.specs.Kept.{livingOf, SoundKept}
+use Rattle.serve.specs.Sound.{Ruled, commandsOf, keptAlive, soundOf}
+use Rattle.serve.specs.Kept.{SoundKept}
 
 -- ---- a command leaves the connections as they are
 cond-connections : (b : Bool) (x y : Device) → cond b x y .connections ≡ cond b (x .connections) (y .connections)
@@ -67,15 +67,16 @@ last-connections zero d n kind t = refl
 last-connections (suc k) d n kind t = last-connections k (ranFirst d n kind t .device) n kind (drop (entrySize kind t) t) ∙ first-connections d n kind t
 
 -- ---- a connection that stays as open as it was
-at-lives : (f : Connection → Connection) → ((c : Connection) → f c .live ≡ c .live) → (d : Device) (n : ℕ) → livingOf (atConnection f d n) ≡ livingOf d
+at-lives : (f : Connection → Connection) → ((c : Connection) → f c .live ≡ c .live) → (d : Device) (n : ℕ) → livesIn (atConnection f d n) ≡ livesIn d
+unfolding livesIn
 at-lives f l d n =
-    map-set-same (λ (c : Connection). c .live) (d .connections) n (f (getD (d .connections) n closed)) closed (l (getD (d .connections) n closed))
+    map-set-same isLive (d .connections) n (f (getD (d .connections) n closed)) closed (l (getD (d .connections) n closed))
 
-heard-lives : (d : Device) (n : ℕ) → livingOf (heardAt d n) ≡ livingOf d
+heard-lives : (d : Device) (n : ℕ) → livesIn (heardAt d n) ≡ livesIn d
 unfolding heardAt heardOf
 heard-lives d n = at-lives heardOf (λ c. refl) d n
 
-sent-lives : (d : Device) (n : ℕ) → livingOf (sentAt d n) ≡ livingOf d
+sent-lives : (d : Device) (n : ℕ) → livesIn (sentAt d n) ≡ livesIn d
 unfolding sentAt sentOf
 sent-lives d n = at-lives sentOf (λ c. refl) d n
 
@@ -87,20 +88,25 @@ beating-live : (h : Heartbeat) (c : Connection) → beatingOf h c .live ≡ c .l
 unfolding beatingOf setBeat sentOf heardOf
 beating-live h c = either (λ (r : Connection). r .live ≡ c .live) (eqb (inMilliseconds h) 0) (supervised c 0 0) (supervised c (formOf h) (inMilliseconds h)) refl refl
 
-beating-lives : (d : Device) (n : ℕ) (h : Heartbeat) → livingOf (beatingAt d n h) ≡ livingOf d
+beating-lives : (d : Device) (n : ℕ) (h : Heartbeat) → livesIn (beatingAt d n h) ≡ livesIn d
 unfolding beatingAt
 beating-lives d n h =
-    either (λ (r : Device). livingOf r ≡ livingOf d) (liveAt (d .connections) n) _ d (at-lives (beatingOf h) (beating-live h) d n) refl
+    either (λ (r : Device). livesIn r ≡ livesIn d) (liveAt (d .connections) n) _ d (at-lives (beatingOf h) (beating-live h) d n) refl
 
 -- lists of connections that are open alike: the same numbers are open, and they are as long
-pub live-alike : (cs ds : List Connection) (n : ℕ) → map (λ (c : Connection). c .live) cs ≡ map (λ (c : Connection). c .live) ds → liveAt cs n ≡ liveAt ds n
+pub live-alike : (cs ds : List Connection) (n : ℕ) → map isLive cs ≡ map isLive ds → liveAt cs n ≡ liveAt ds n
 unfolding liveAt
 live-alike cs ds n e =
-    sym (List·getD-map (λ (c : Connection). c .live) cs n closed) ∙ ap (λ (l : List Bool). getD l n false) e ∙ List·getD-map (λ (c : Connection). c .live) ds n closed
+    sym (List·getD-map isLive cs n closed) ∙ ap (λ (l : List Bool). getD l n false) e ∙ List·getD-map isLive ds n closed
 
-lives-long : (r d : Device) → livingOf r ≡ livingOf d → length (r .connections) ≡ length (d .connections)
+lives-alike : (r d : Device) (n : ℕ) → livesIn r ≡ livesIn d → liveAt (r .connections) n ≡ liveAt (d .connections) n
+unfolding livesIn
+lives-alike r d n e = live-alike (r .connections) (d .connections) n e
+
+lives-long : (r d : Device) → livesIn r ≡ livesIn d → length (r .connections) ≡ length (d .connections)
+unfolding livesIn
 lives-long r d e =
-    sym (length-map (r .connections) (λ (c : Connection). c .live)) ∙ ap length e ∙ length-map (d .connections) (λ (c : Connection). c .live)
+    sym (length-map (r .connections) isLive) ∙ ap length e ∙ length-map (d .connections) isLive
 
 -- ---- commands
 module _ (n kind : ℕ) where
@@ -119,11 +125,11 @@ module _ (n kind : ℕ) where
       (last-obeys count d t l h)
       (rules-kept .sending _ n (last-obeys count d t l h))
 
-  commands-lives : (d : Device) (count : ℕ) (t : List ℕ) → livingOf (commandsOf d n kind count t .device) ≡ livingOf d
-  unfolding commandsOf
+  commands-lives : (d : Device) (count : ℕ) (t : List ℕ) → livesIn (commandsOf d n kind count t .device) ≡ livesIn d
+  unfolding commandsOf livesIn
   commands-lives d count t =
-      let e = ap (map (λ (c : Connection). c .live)) (last-connections count d n kind t) in
-      either (λ (r : Ruled). livingOf (r .device) ≡ livingOf d) (eqb kind 0) _ _ e (sent-lives _ n ∙ e)
+      let e = ap (map isLive) (last-connections count d n kind t) in
+      either (λ (r : Ruled). livesIn (r .device) ≡ livesIn d) (eqb kind 0) _ _ e (sent-lives _ n ∙ e)
 
 -- ---- a keep-alive
 be32-small : (s : List ℕ) (at : ℕ) → Octets s → be32At s at < 4294967296
@@ -143,7 +149,7 @@ unfolding soundOf keptAlive
 obeying d n m o s l h =
     let t = drop headerEnd m in
     let heard = rules-kept .hearing d n h in
-    let still : liveAt (heardAt d n .connections) n ≡ true = live-alike _ _ n (heard-lives d n) ∙ l in
+    let still : liveAt (heardAt d n .connections) n ≡ true = lives-alike (heardAt d n) d n (heard-lives d n) ∙ l in
     either Kept (eqb (pduType m) keepAlive) _ _
     (rules-kept .beating d n (heartbeatOf t) (heartbeat-fits t (octets-drop headerEnd m o)) h)
     (either Kept (ltb (pduType m) notification) _ _ (commands-obey n (pduType m) (heardAt d n) (messageCount m) t still heard) heard)
@@ -151,7 +157,7 @@ obeying d n m o s l h =
     Kept : Ruled → Type 0
     Kept r = deviceObeys (r .device) ≡ true
 
-living : (d : Device) (n : ℕ) (m : List ℕ) → livingOf (soundOf d n m .device) ≡ livingOf d
+living : (d : Device) (n : ℕ) (m : List ℕ) → livesIn (soundOf d n m .device) ≡ livesIn d
 unfolding soundOf keptAlive
 living d n m =
     let t = drop headerEnd m in
@@ -160,7 +166,11 @@ living d n m =
     (either Kept (ltb (pduType m) notification) _ _ (commands-lives n (pduType m) (heardAt d n) (messageCount m) t ∙ heard-lives d n) (heard-lives d n))
   where
     Kept : Ruled → Type 0
-    Kept r = livingOf (r .device) ≡ livingOf d
+    Kept r = livesIn (r .device) ≡ livesIn d
+
+told-lives : (d : Device) (at : ℕ) → livesIn (toldAt d at) ≡ livesIn d
+unfolding livesIn
+told-lives d at = ap (map isLive) (told-connections d at)
 
 pub sound-kept : SoundKept
 sound-kept =
@@ -170,6 +180,6 @@ sound-kept =
       long = λ d n m. lives-long (soundOf d n m .device) d (living d n m);
       sent-living = sent-lives;
       sent-long = λ d n. lives-long (sentAt d n) d (sent-lives d n);
-      told-living = λ d at. ap (map (λ (c : Connection). c .live)) (told-connections d at);
+      told-living = told-lives;
       told-long = λ d at. ap length (told-connections d at);
     }

@@ -9,12 +9,12 @@ use borrow.Author.Tests.{eq-eqb, ne-eqb}
 use Rattle.frame.specs.Limits.{response}
 use Rattle.layout.specs.Message.{headBytes}
 use Rattle.layout.proofs.Messages.{length-message}
 use Rattle.serve.specs.Serve.{responsesOf}
 use Rattle.serve.proofs.Serves.{responses-few}
-use Rattle.rules.proofs.Replies.{commands-silent, commands-told, room, reply-stores, front-none}
+use Rattle.serve.proofs.Replies.{commands-silent, commands-told, room, reply-stores, front-none}
 use borrow.Author.Needs.{needs}
-use Rattle.rules.proofs.commands.Statement.{statement}
-use Rattle.rules.proofs.commands.Tie as tie
+use Rattle.serve.proofs.commands.Statement.{statement}
+use Rattle.serve.proofs.commands.Tie as tie
 
 serve-requires : tie.Need-serve-requires
 serve-requires c κs = search needs

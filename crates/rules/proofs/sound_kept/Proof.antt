@@ -1,9 +1,0 @@
-use Rattle.rules.proofs.Keeps.{sound-kept}
-use Rattle.rules.proofs.sound_kept.Statement.{statement}
-use Rattle.rules.proofs.sound_kept.Tie as tie
-
-returns : tie.Need-returns
-returns c = sound-kept
-
-pub sound-kept-spec : {M : Type 1} → statement M
-sound-kept-spec = tie.close (tie.spec returns)
