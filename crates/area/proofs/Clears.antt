@@ -11,7 +11,8 @@ use Rattle.laws.proofs.Parts.{drop-take}
 use Rattle.laws.proofs.Stores.{drop-sets, sets-append, sets-same}
 use Rattle.octets.proofs.Scans.{length-zeros, zeros-append, drop-zeros}
 use Rattle.octets.specs.Zeros.{zeros}
-use Rattle.area.specs.Area.{partBytes, areaBytes, partAt, ZerosBehind, partCleared, clearedFrom, closedCleared}
+use Rattle.area.specs.Area.{partBytes, areaBytes, partAt, partCleared, clearedFrom, closedCleared}
+use Rattle.area.specs.Scaffold.{ZerosBehind}
 
 pub length-cleared : (area : List ℕ) (n : ℕ) → length (partCleared area n) ≡ length area
 unfolding partCleared

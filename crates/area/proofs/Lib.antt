@@ -1,3 +1,5 @@
 pub mod Sounds
 pub mod Clears
 pub mod Counts
+pub mod Gathers
+pub mod Lies

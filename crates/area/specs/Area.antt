@@ -1,7 +1,6 @@
 -- The lent area: document 01 'What is built', "8 connections of 2,049 bytes, connection n at 2,049 × n, each holding that
 -- connection's undecided bytes first and zeros after".
-use Prim.Native.Nat.{ℕ, suc, _+_, _-_, _*_}
-use mathlib.Core.Path.{_≡_}
+use Prim.Native.Nat.{ℕ, suc, _*_}
 use mathlib.Core.List.{List, [], _∷_}
 use mathlib.Core.Bool.{Bool, cond, true, false, not, _&&_}
 use lib.ListN.{length, take, drop}
@@ -39,10 +38,6 @@ areaSound held area = cond (eqb (length area) areaBytes) (partsSound held area) 
 -- the k undecided bytes of connection n
 unfoldable pub undecidedOf : List ℕ → ℕ → ℕ → List ℕ
 undecidedOf area n k = take k (drop (partAt n) area)
-
--- connection n's bytes behind its first u are zeros already
-abbrev pub ZerosBehind : List ℕ → ℕ → ℕ → Type 0
-ZerosBehind area n u = take (partBytes - u) (drop (partAt n + u) area) ≡ zeros (partBytes - u)
 
 -- connection n's part all zeros
 unfoldable pub partCleared : List ℕ → ℕ → List ℕ

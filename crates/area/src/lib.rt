@@ -1,9 +1,13 @@
-// The lent area of undecided bytes: its check, and the clearing of a connection's part.
+// The lent area of undecided bytes: its check, the gathering of a piece, and the clearing of a connection's part.
 ghost use mathlib.Core.Path.{_≡_};
 ghost use mathlib.Core.Bool.{cond};
-ghost use Prim.Native.Nat.{_+_, _≤_};
+ghost use mathlib.Core.List.{_++_};
+ghost use Prim.Native.Nat.{_+_, _-_, _≤_, min};
 ghost use lib.ListN.{length};
-ghost use Rattle.area.specs.Area.{partBytes, areaBytes, partAt, partSound, areaSound, ZerosBehind, partCleared, closedCleared, heldKept, countObeys, heldObeys};
+ghost use Rattle.frame.specs.Decide.{decide};
+ghost use Rattle.area.specs.Area.{partBytes, areaBytes, partAt, partSound, areaSound, undecidedOf};
+ghost use Rattle.area.specs.Area.{partCleared, closedCleared, heldKept, countObeys, heldObeys};
+ghost use Rattle.area.specs.Scaffold.{ZerosBehind, Lying, gathered};
 
 pub const CONNECTIONS: usize = 8;
 
@@ -52,6 +56,28 @@ pub fn area_sound(area: &[u8], held: [u16; 8]) -> bool
         return false;
     }
     parts_sound(area, held)
+}
+
+// How many of so many bytes fit behind k undecided ones.
+pub fn fitting(k: usize, length: usize) -> usize
+    requires { ⌜ k ≤ partBytes ⌝ }
+    ensures { λ r. ⌜ r ≡ min (partBytes - k) length ⌝ }
+{
+    let room = PART - k;
+    if room < length { room } else { length }
+}
+
+// The piece, as far as it fits, behind connection n's k undecided bytes; and what they all decide.
+pub fn gather(area: &mut [u8], n: usize, k: usize, piece: &[u8]) -> frame::Decision
+    requires { ⌜ Lying (now area) n k ⌝ }
+    ensures { λ r. ⌜ (r ≡ decide (undecidedOf (now (area .entry)) n k ++ now (piece .entry)))
+        × (now (area .exit) ≡ gathered (now (area .entry)) n k (now (piece .entry))) ⌝ }
+{
+    let m = fitting(k, piece.len());
+    let base = n * PART;
+    let end = base + k + m;
+    octets::copy(&piece[..m], area, base + k);
+    frame::decide(&area[base..end])
 }
 
 // Connection n's part all zeros.

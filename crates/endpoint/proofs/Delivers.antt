@@ -9,18 +9,21 @@ use Rattle.frame.specs.Decide.{decide}
 use Rattle.frame.specs.declared.Decision.the-variants.{Undecided, Faulty, Sound}
 use Rattle.layout.specs.Message.{atFront}
 use borrow.Author.Tests.{lt-ltb, le-ltb, not-true, not-false}
-use Rattle.area.specs.Area.{partAt, areaSound, undecidedOf, partCleared}
+use Rattle.laws.proofs.Conds.{and-right}
+use Rattle.area.specs.Area.{partAt, areaSound, undecidedOf, partCleared, heldObeys}
+use Rattle.area.specs.Scaffold.{Lying}
+use Rattle.area.proofs.Lies.{lies}
+use Rattle.device.specs.Obeys.{deviceObeys}
 use Rattle.connection.specs.State.{liveAt, isLive}
 use Rattle.device.specs.declared.Device.{Device}
 use Rattle.serve.specs.Sound.{Ruled, soundOf}
 use Rattle.device.specs.State.{livesIn}
 use Rattle.endpoint.specs.State.{stateOf, recordObeys, closedState}
 use Rattle.endpoint.specs.Numbers.{badRecord, badArea, noConnection, noRoom, deliveryNumbers, Outcome, outcome, refused}
-use Rattle.endpoint.specs.Deliver.{leastOutput, heldAt, messaged, deliveredBy, takenIn, deliverCall, Lying}
+use Rattle.endpoint.specs.Deliver.{leastOutput, heldAt, messaged, deliveredBy, takenIn, deliverCall}
 use Rattle.endpoint.specs.declared.Record.{Record}
 use Rattle.endpoint.specs.declared.Delivery.the-variants.{More, Message, Closed}
 use Rattle.endpoint.proofs.States.{live-low}
-use Rattle.endpoint.proofs.Lies.{lies}
 
 pub messaged-is : (q : Ruled) (r : Record) (area : List ℕ) (n taken : ℕ) (out : List ℕ) (l : ℕ) (d : Device) (a o : List ℕ)
     → l ≡ length (q .reply) → d ≡ q .device → a ≡ partCleared area n → o ≡ atFront (q .reply) out
@@ -77,7 +80,9 @@ module _ (r : Record) (b : Bool) (tested : b ≡ recordObeys r) (area : List ℕ
 
         -- and the connection's bytes lie as they should
         pub deliver-lies : length (r .device .connections) ≡ 8 → length (r .held) ≡ 8 → Lying area n (heldAt r n)
-        unfolding livesIn
+        unfolding recordObeys livesIn
         deliver-lies c8 h8 =
-            lies r area n (sym tested ∙ not-false b t) (sound ∙ not-false s u) (live-low (r .device .connections) n 8 (sym living ∙ not-false l v) c8)
-            (length-map (r .device .connections) isLive ∙ c8) h8
+            let d = r .device in
+            let o : recordObeys r ≡ true = sym tested ∙ not-false b t in
+            lies (livesIn d) (r .held) area n (and-right (deviceObeys d) (heldObeys (livesIn d) (r .held)) o) (sound ∙ not-false s u)
+            (live-low (d .connections) n 8 (sym living ∙ not-false l v) c8) (length-map (d .connections) isLive ∙ c8) h8

@@ -8,11 +8,10 @@ use native.Mathlib.Numerals.{add-one}
 use native.Mathlib.Omega.{arith}
 use lib.ListN.{length, take, drop, set, getD, drop-of-length-le}
 use lib.Seq.{take-all}
-use lib.Dec.{eqb}
-use borrow.Author.Tests.{eqb-true, eq-eqb, not-true, not-false}
-use Rattle.laws.proofs.Conds.{cond-left}
+use borrow.Author.Tests.{eq-eqb, not-true, not-false}
 use Rattle.octets.specs.Zeros.{zeros}
-use Rattle.area.specs.Area.{areaBytes, partsSound, areaSound, partCleared, closedCleared, heldKept}
+use Rattle.area.specs.Area.{areaBytes, areaSound, partCleared, closedCleared, heldKept}
+use Rattle.area.proofs.Lies.{area-long}
 use Rattle.connection.specs.State.{closed, liveAt}
 use Rattle.connection.specs.declared.Connection.{Connection}
 use Rattle.device.specs.State.{openOf, livesIn}
@@ -56,11 +55,6 @@ filling-all {A} {B} {f} {n} {i} {l} {first} m h =
     let a : length l ≤ i = omega (arith, m .sizes) in
     let b : length first ≤ i = omega (arith, m .sizes) in
     m .is ∙ rw (take-all i l a, drop-of-length-le first b, append-nil)
-
--- an area that row 2 does not refuse is as long as it is to be
-pub area-long : (held area : List ℕ) → areaSound held area ≡ true → length area ≡ areaBytes
-unfolding areaSound
-area-long held area e = eqb-true (length area) areaBytes (cond-left (eqb (length area) areaBytes) (partsSound held area) false true e (λ q. true≢false (sym q)) .0)
 
 -- an open connection is one of the n
 pub live-low : (cs : List Connection) (i n : ℕ) → liveAt cs i ≡ true → length cs ≡ n → i < n

@@ -1,18 +1,15 @@
 -- A delivery: document 01 'Delivering' and 'What calls refuse'.
-use Prim.Native.Nat.{ℕ, _+_, _-_, _≤_, _<_}
-use mathlib.Core.Path.{_≡_}
-use mathlib.Core.Bool.{Bool, cond, false}
+use Prim.Native.Nat.{ℕ, _+_, _-_}
+use mathlib.Core.Bool.{cond}
 use mathlib.Core.List.{List, [], _∷_, _++_}
 use lib.ListN.{length, getD, take, set}
 use lib.Seq.{sets}
 use lib.Dec.{ltb}
-use Rattle.frame.specs.Limits.{greatestSize}
-use Rattle.frame.specs.Decide.{decide, settled}
-use Rattle.frame.specs.Sound.{SoundAt}
+use Rattle.frame.specs.Decide.{decide}
 use Rattle.frame.specs.declared.Decision.{Decision}
 use Rattle.frame.specs.declared.Decision.the-variants.{Undecided, Faulty, Sound}
 use Rattle.layout.specs.Message.{atFront}
-use Rattle.area.specs.Area.{partBytes, areaBytes, partAt, areaSound, undecidedOf, ZerosBehind, partCleared}
+use Rattle.area.specs.Area.{partAt, areaSound, undecidedOf, partCleared}
 use Rattle.connection.specs.State.{liveAt}
 use Rattle.serve.specs.Sound.{Ruled, soundOf}
 use Rattle.endpoint.specs.State.{stateOf, recordObeys, closedState}
@@ -56,25 +53,3 @@ deliverCall r area n piece out =
     (refused noConnection r area out))
     (refused badArea r area out))
     (refused badRecord r area out)
-
--- what a piece is taken into: an area that row 2 does not refuse, and connection n's k bytes in it
-pub record Lying (area : List ℕ) (n k : ℕ) : Type 0 where
-  pub number : n < 8
-  pub long : length area ≡ areaBytes
-  pub few : k ≤ greatestSize
-  pub waiting : settled (decide (undecidedOf area n k)) ≡ false
-  pub zeroed : ZerosBehind area n k
-
--- the piece, as far as it fits, behind them
-unfoldable pub gathered : List ℕ → ℕ → ℕ → List ℕ → List ℕ
-gathered area n k piece = sets area (partAt n + k) (take (partBytes - k) piece)
-
--- a sound message of t bytes at the front of connection n's part, of which k were there before; u bytes lie there
-pub record MessageLies (area : List ℕ) (n k t u : ℕ) : Type 0 where
-  pub number : n < 8
-  pub long : length area ≡ areaBytes
-  pub behind : k ≤ t
-  pub fits : t ≤ partBytes
-  pub sound : SoundAt (undecidedOf area n t) t
-  pub reach : u ≤ partBytes
-  pub zeroed : ZerosBehind area n u

@@ -4,33 +4,14 @@ use crate::Delivery;
 use crate::Record;
 use frame::Decision;
 ghost use mathlib.Core.Path.{_≡_};
-ghost use mathlib.Core.List.{_++_};
-ghost use Prim.Native.Nat.{_-_, _<_, _≤_, min};
+ghost use Prim.Native.Nat.{_-_, _<_, _≤_};
 ghost use lib.ListN.{length, set};
-ghost use Rattle.frame.specs.Decide.{decide};
 ghost use Rattle.area.specs.Area.{undecidedOf};
+ghost use Rattle.area.specs.Scaffold.{Lying, MessageLies};
 ghost use Rattle.serve.specs.Sound.{soundOf};
 ghost use Rattle.endpoint.specs.State.{stateOf};
 ghost use Rattle.endpoint.specs.Numbers.{deliveryNumbers, outcome};
-ghost use Rattle.endpoint.specs.Deliver.{leastOutput, heldAt, Lying, MessageLies, gathered, messaged, takenIn, deliverCall};
-
-fn least(a: usize, b: usize) -> usize
-    ensures { λ r. ⌜ r ≡ min a b ⌝ }
-{
-    if a < b { a } else { b }
-}
-
-// The piece, as far as it fits, behind connection n's k undecided bytes; and what they all decide.
-fn gather(area: &mut [u8], n: usize, k: usize, piece: &[u8]) -> Decision
-    requires { ⌜ Lying (now area) n k ⌝ }
-    ensures { λ r. ⌜ (r ≡ decide (undecidedOf (now (area .entry)) n k ++ now (piece .entry))) × (now (area .exit) ≡ gathered (now (area .entry)) n k (now (piece .entry))) ⌝ }
-{
-    let m = least(area::PART - k, piece.len());
-    let base = n * area::PART;
-    let end = base + k + m;
-    octets::copy(&piece[..m], area, base + k);
-    frame::decide(&area[base..end])
-}
+ghost use Rattle.endpoint.specs.Deliver.{leastOutput, heldAt, messaged, takenIn, deliverCall};
 
 impl Record {
     fn with_held(mut self, at: usize, k: u16) -> Record
@@ -77,7 +58,7 @@ impl Record {
         let at = n as usize;
         let held = self.held;
         let k = held[at] as usize;
-        match gather(area, at, k, piece) {
+        match area::gather(area, at, k, piece) {
             Decision::Undecided => Delivered {
                 state: self.with_held(at, (k + piece.len()) as u16),
                 answer: Delivery::More(piece.len()),
@@ -90,7 +71,7 @@ impl Record {
                 }
             }
             Decision::Sound(t) => {
-                let used = k + least(area::PART - k, piece.len());
+                let used = k + area::fitting(k, piece.len());
                 self.run(area, n, k, t, used, output)
             }
         }

@@ -254,7 +254,7 @@ impl Record {
     }
 
     // Time passes, to a reading of the host's counter.
-    pub fn tick(self, area: &mut [u8], reading: u32) -> Ticked
+    pub fn tick(mut self, area: &mut [u8], reading: u32) -> Ticked
         ensures { λ r. ⌜ outcome (tickingNumbers (r .answer)) (r .state) (now (area .exit)) [] ≡ tickCall self (now (area .entry)) reading ⌝ }
     {
         if !self.obeys() {

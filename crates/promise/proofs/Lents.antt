@@ -27,11 +27,11 @@ use Rattle.stream.proofs.Lent.{length-counted, getD-counted}
 use Rattle.stream.proofs.Bytes.{octets-nil}
 use Rattle.device.specs.State.{livesIn}
 use Rattle.endpoint.specs.State.{recordObeys}
-use Rattle.endpoint.specs.Deliver.{heldAt, Lying}
+use Rattle.endpoint.specs.Deliver.{heldAt}
 use Rattle.endpoint.specs.declared.Record.{Record}
-use Rattle.endpoint.proofs.States.{area-long}
-use Rattle.endpoint.proofs.Lies.{part-at, lies}
-use Rattle.endpoint.proofs.Gathers.{length-undecided}
+use Rattle.area.specs.Scaffold.{Lying}
+use Rattle.area.proofs.Lies.{area-long, part-at, lies}
+use Rattle.area.proofs.Gathers.{length-undecided}
 use Rattle.promise.specs.Rulebook.{Fine}
 use Rattle.promise.specs.Kept.{Kept}
 use Rattle.promise.proofs.Lives.{GoodAt, lives-get, length-lives}
@@ -84,7 +84,11 @@ module _ (r : Record) (area : List ℕ) (w : Kept r area) where
   long = area-long (r .held) area (w .sound)
 
   lying : (n : ℕ) → n < 8 → Lying area n (heldAt r n)
-  lying n l = lies r area n (w .obeys) (w .sound) l (length-lives (r .device) ∙ w .eight) (w .counts)
+  unfolding recordObeys
+  lying n l =
+      let d = r .device in
+      lies (livesIn d) (r .held) area n (and-right (deviceObeys d) (heldObeys (livesIn d) (r .held)) (w .obeys)) (w .sound) l
+      (length-lives d ∙ w .eight) (w .counts)
 
   here : (n : ℕ) → n < 8 → heldIn r area n ≡ undecidedOf area n (heldAt r n)
   unfolding heldIn

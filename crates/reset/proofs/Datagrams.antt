@@ -16,7 +16,7 @@ use Rattle.area.specs.Area.{areaBytes, areaSound}
 use Rattle.endpoint.specs.State.{freshState, recordObeys}
 use Rattle.endpoint.specs.Numbers.{badRecord, badArea, outcome, refused}
 use Rattle.endpoint.specs.declared.Record.{Record}
-use Rattle.endpoint.proofs.States.{area-long}
+use Rattle.area.proofs.Lies.{area-long}
 use Rattle.reset.specs.Datagram.{restarted, datagramCall}
 
 -- an area of which every byte was lent to be cleared

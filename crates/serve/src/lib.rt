@@ -43,10 +43,10 @@ fn answer_to(out: &mut [u8], at: usize, kind: u8, handle: u32, answer: Answer) -
 // Runs count commands of connection n; those of type 1 are answered from place 10 of the output on.
 fn serve(device: Device, n: u8, kind: u8, count: u16, body: &[u8], out: &mut [u8]) -> Served
     requires { ⌜ (kind < 2) × (entriesFill count kind (now body) ≡ true) × (10 + count * 22 ≤ length (now out)) ⌝ }
-    ensures { λ r. ⌜ let told = responsesOf count device n kind (now (body .entry)) in
+    ensures { λ r. ⌜ (let told = responsesOf count device n kind (now (body .entry)) in
         (r .device ≡ lastOf count device n kind (now (body .entry)))
         × (r .end ≡ cond (eqb kind 0) 10 (10 + length told))
-        × (now (out .exit) ≡ cond (eqb kind 0) (now (out .entry)) (sets (now (out .entry)) 10 told)) ⌝ }
+        × (now (out .exit) ≡ cond (eqb kind 0) (now (out .entry)) (sets (now (out .entry)) 10 told))) ⌝ }
 {
     let mut d = device;
     let mut t = body;
@@ -70,8 +70,8 @@ fn serve(device: Device, n: u8, kind: u8, count: u16, body: &[u8], out: &mut [u8
 // Runs count commands, and answers those of type 1.
 fn commands(device: Device, n: u8, kind: u8, count: u16, body: &[u8], out: &mut [u8]) -> Ruling
     requires { ⌜ (kind < 2) × (entriesFill count kind (now body) ≡ true) × (10 + count * 22 ≤ length (now out)) × (count ≤ 119) ⌝ }
-    ensures { λ r. ⌜ let q = commandsOf device n kind count (now (body .entry)) in
-        (r .device ≡ q .device) × (r .length ≡ length (q .reply)) × (now (out .exit) ≡ atFront (q .reply) (now (out .entry))) ⌝ }
+    ensures { λ r. ⌜ (let q = commandsOf device n kind count (now (body .entry)) in
+        (r .device ≡ q .device) × (r .length ≡ length (q .reply)) × (now (out .exit) ≡ atFront (q .reply) (now (out .entry)))) ⌝ }
 {
     let served = serve(device, n, kind, count, body, out);
     let d = served.device;
@@ -92,8 +92,8 @@ fn commands(device: Device, n: u8, kind: u8, count: u16, body: &[u8], out: &mut 
 // A sound message m of connection n: the reply, if any, fills the output's front.
 pub fn sound(device: Device, n: u8, m: &[u8], out: &mut [u8]) -> Ruling
     requires { ⌜ SoundAt (now m) (length (now m)) × (4096 ≤ length (now out)) ⌝ }
-    ensures { λ r. ⌜ let q = soundOf device n (now (m .entry)) in
-        (r .device ≡ q .device) × (r .length ≡ length (q .reply)) × (now (out .exit) ≡ atFront (q .reply) (now (out .entry))) ⌝ }
+    ensures { λ r. ⌜ (let q = soundOf device n (now (m .entry)) in
+        (r .device ≡ q .device) × (r .length ≡ length (q .reply)) × (now (out .exit) ≡ atFront (q .reply) (now (out .entry)))) ⌝ }
 {
     let kind = m[7];
     if kind == frame::KEEP_ALIVE {

@@ -12,10 +12,10 @@ same-length : tie.Need-same-length
 same-length c = search needs
 
 returns : tie.Need-returns
-returns c = simp (ne-eqb (c .before .before .before .before .args .kind) 0 (λ e. omega arith)) (c .before .put-response .ensures)
+returns c = simp (ne-eqb (c .before .before .before .before .before .before .args .kind) 0 (λ e. omega arith)) (c .before .before .put-response .ensures)
 
 returns-2 : tie.Need-returns-2
-returns-2 c = simp (eq-eqb (c .before .before .before .args .kind) 0 (omega arith)) (refl, refl)
+returns-2 c = simp (eq-eqb (c .before .before .args .kind) 0 (omega arith)) (refl, refl)
 
 pub answer-to-spec : {M : Type 1} → statement M
 answer-to-spec = tie.close (tie.spec put-response-requires same-length returns returns-2)

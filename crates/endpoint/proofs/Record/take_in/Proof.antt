@@ -7,8 +7,8 @@ use lib.ListN.{getD, take}
 use Rattle.frame.specs.Decide.{decide, taken, settled}
 use Rattle.frame.specs.declared.Decision.the-variants.{Undecided, Faulty, Sound}
 use Rattle.area.specs.Area.{undecidedOf, partCleared}
-use Rattle.endpoint.specs.Deliver.{gathered}
-use Rattle.endpoint.proofs.Gathers.{waits-few, waits-gathered, cleared-gathered, decided-behind, message-lies, message-whole}
+use Rattle.area.specs.Scaffold.{gathered}
+use Rattle.area.proofs.Gathers.{waits-few, waits-gathered, cleared-gathered, decided-behind, message-lies, message-whole}
 use Rattle.endpoint.proofs.Delivers.{taken-waits, taken-closed, taken-runs}
 use borrow.Author.Needs.{needs}
 use Rattle.endpoint.proofs.Record.take_in.Statement.{statement}
@@ -72,11 +72,8 @@ sub-t31 c =
 enum-known-t : tie.Need-enum-known-t
 enum-known-t c = search needs
 
-sub-least : tie.Need-sub-least
-sub-least c = search needs
-
-least-requires : tie.Need-least-requires
-least-requires c κs = search needs
+fitting-requires : tie.Need-fitting-requires
+fitting-requires c κs = search needs
 
 add-used : tie.Need-add-used
 add-used c = search needs
@@ -91,7 +88,7 @@ run-requires c κs =
     let piece = now (a .piece) in
     let w = s .pre .0 in
     let t = c .before .before .before .before .t .given .0 .0 in
-    (rw (c .before .before .before .before .before .before .before .before .gather .ensures .1, c .before .before .least .ensures) (message-whole area n k w piece t (cc)), omega arith)
+    (rw (c .before .before .before .before .before .before .before .before .gather .ensures .1, c .before .before .fitting .ensures) (message-whole area n k w piece t (cc)), omega arith)
 
 same-length : tie.Need-same-length
 same-length c = search needs
@@ -164,8 +161,7 @@ take-in-spec =
     closed-requires
     sub-t31
     enum-known-t
-    sub-least
-    least-requires
+    fitting-requires
     add-used
     run-requires
     same-length

@@ -18,10 +18,10 @@ use Rattle.frame.specs.declared.Decision.{Decision}
 use Rattle.frame.specs.declared.Decision.the-variants.{Undecided, Faulty, Sound}
 use Rattle.frame.proofs.Ways.{deciding, unsettled}
 use Rattle.frame.proofs.Sounds.{sound-at}
-use Rattle.area.specs.Area.{partBytes, areaBytes, partAt, undecidedOf, ZerosBehind, partCleared}
-use Rattle.area.proofs.Clears.{zeros-further}
 use Rattle.frame.proofs.Bytes.{beyond}
-use Rattle.endpoint.specs.Deliver.{Lying, MessageLies, gathered}
+use Rattle.area.specs.Area.{partBytes, areaBytes, partAt, undecidedOf, partCleared}
+use Rattle.area.specs.Scaffold.{ZerosBehind, Lying, MessageLies, gathered}
+use Rattle.area.proofs.Clears.{zeros-further}
 
 take-min : (a : ℕ) (l : List ℕ) → take (min a (length l)) l ≡ take a l
 take-min a l = go (decLe (length l) a)

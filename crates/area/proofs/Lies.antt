@@ -1,4 +1,4 @@
--- What a record that obeys and an area that row 2 does not refuse say of one connection. Assumes nothing.
+-- What counts that obey and an area that row 2 does not refuse say of one connection. Assumes nothing.
 use Prim.Native.Nat.{ℕ, zero, suc, _+_, _-_, _≤_, _<_}
 use mathlib.Core.Path.{_≡_, refl, sym, ap, _∙_}
 use mathlib.Core.Bool.{Bool, cond, true, false, not, _&&_, true≢false}
@@ -9,19 +9,21 @@ use lib.Dec.{eqb, leb}
 use lib.ListN.{length, take, drop, getD, length-drop}
 use lib.Seq.{take-take, drop-drop, length-take-le}
 use borrow.Author.Tests.{leb-true, eqb-true, not-true}
-use Rattle.laws.proofs.Conds.{and-left, and-right}
+use Rattle.laws.proofs.Conds.{and-left, and-right, cond-left}
 use Rattle.laws.proofs.Parts.{drop-take}
 use Rattle.octets.specs.Zeros.{zeros, allZero}
 use Rattle.octets.proofs.Scans.{zeros-of-all}
 use Rattle.frame.specs.Limits.{greatestSize}
 use Rattle.frame.specs.Decide.{decide, settled}
-use Rattle.area.specs.Area.{partBytes, areaBytes, partAt, partSound, partsSound, areaSound, undecidedOf, ZerosBehind, countObeys, heldObeys}
-use Rattle.device.specs.Obeys.{deviceObeys}
-use Rattle.device.specs.State.{livesIn}
-use Rattle.endpoint.specs.State.{recordObeys}
-use Rattle.endpoint.specs.Deliver.{heldAt, Lying}
-use Rattle.endpoint.specs.declared.Record.{Record}
-use Rattle.endpoint.proofs.States.{area-long}
+use Rattle.area.specs.Area.{partBytes, areaBytes, partAt, partSound, partsSound, areaSound, undecidedOf, countObeys, heldObeys}
+use Rattle.area.specs.Scaffold.{ZerosBehind, Lying}
+
+-- an area that row 2 does not refuse is as long as it is to be
+pub area-long : (held area : List ℕ) → areaSound held area ≡ true → length area ≡ areaBytes
+unfolding areaSound
+area-long held area e =
+    eqb-true (length area) areaBytes
+    (cond-left (eqb (length area) areaBytes) (partsSound held area) false true e (λ q. true≢false (sym q)) .0)
 
 count-few : (live : Bool) (k : ℕ) → countObeys live k ≡ true → k ≤ greatestSize
 unfolding countObeys
@@ -74,16 +76,15 @@ zeroed-at held area n e h n8 l f =
     length-take-le (partBytes - k) (drop (partAt n + k) area) (rw length-drop (omega arith)) in
     sym q ∙ zeros-of-all (drop k (take partBytes x)) z ∙ ap zeros (ap length q ∙ m)
 
-pub lies : (r : Record) (area : List ℕ) (n : ℕ) → recordObeys r ≡ true → areaSound (r .held) area ≡ true → n < 8
-    → length (livesIn (r .device)) ≡ 8 → length (r .held) ≡ 8 → Lying area n (heldAt r n)
-unfolding recordObeys
-lies r area n o a h l m =
-    let f = held-few (livesIn (r .device)) (r .held) n (and-right (deviceObeys (r .device)) (heldObeys (livesIn (r .device)) (r .held)) o) (omega arith) in
-    let g = area-long (r .held) area a in
+pub lies : (lives : List Bool) (held area : List ℕ) (n : ℕ) → heldObeys lives held ≡ true → areaSound held area ≡ true → n < 8
+    → length lives ≡ 8 → length held ≡ 8 → Lying area n (getD held n 0)
+lies lives held area n o a h l m =
+    let f = held-few lives held n o (omega arith) in
+    let g = area-long held area a in
     record {
       number = h;
       long = g;
       few = f;
-      waiting = waits-at (r .held) area n a (omega arith) f;
-      zeroed = zeroed-at (r .held) area n a (omega arith) h g f;
+      waiting = waits-at held area n a (omega arith) f;
+      zeroed = zeroed-at held area n a (omega arith) h g f;
     }
