@@ -1,7 +1,7 @@
--- Tests and searches over a list, for any element type.
+-- Tests, searches and joining over lists, for any element type.
 use Prim.Native.Nat.{ℕ, suc, _+_, _*_}
 use mathlib.Core.Bool.{Bool, true, false, cond, _&&_, _||_}
-use mathlib.Core.List.{List, [], _∷_}
+use mathlib.Core.List.{List, [], _∷_, _++_}
 
 -- every element meets the test
 abbrev pub all : {A : Type 0} → (A → Bool) → List A → Bool
@@ -27,3 +27,8 @@ index p (x ∷ xs) = cond (p x) 0 (suc (index p xs))
 abbrev pub mask : {A : Type 0} → (A → Bool) → List A → ℕ
 mask p [] = 0
 mask p (x ∷ xs) = cond (p x) 1 0 + 2 * mask p xs
+
+-- some lists, one behind another
+abbrev pub joined : {A : Type 0} → List (List A) → List A
+joined [] = []
+joined (xs ∷ xss) = xs ++ joined xss

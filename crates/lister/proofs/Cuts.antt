@@ -7,6 +7,7 @@ use native.Mathlib.Omega.{arith}
 use native.Mathlib.Nat.{add-zero}
 use lib.ListN.{length, drop, length-drop}
 use lib.Seq.{length-take-le, drop-drop, take-append-le, drop-append-le}
+use Rattle.laws.specs.Lists.{joined}
 use Rattle.frame.specs.Limits.{greatestSize}
 use Rattle.frame.specs.Decide.{decide, settled}
 use Rattle.frame.specs.declared.Decision.{Decision}
@@ -14,7 +15,7 @@ use Rattle.frame.specs.declared.Decision.the-variants.{Undecided, Faulty, Sound
 use Rattle.frame.proofs.Ways.{deciding}
 use Rattle.frame.proofs.Sounds.{sound-at}
 use Rattle.lister.specs.Listing.{messagesOf, bytesOf, linesOf, lastBy, lastLine, listedBytes, unlisted, listingFrom, listing}
-use Rattle.lister.specs.Pieces.{overBy, over, pieceText, printed, joined, Pieces}
+use Rattle.lister.specs.Pieces.{overBy, over, pieceText, printed, Pieces}
 use Rattle.lister.proofs.Walks.{Unsound, nothing-unsound, messages-none, messages-first, bytes-append, lines-append}
 
 -- bytes that are not sound at the front, or the message there
@@ -148,7 +149,7 @@ unfolding listingFrom
 listing-parts at s = refl
 
 printed-from : (at : ℕ) (held : List ℕ) (ps : List (List ℕ)) → printed at held ps ≡ listingFrom at (held ++ joined ps)
-unfolding printed joined pieceText
+unfolding printed pieceText
 printed-from at held [] = rw (append-nil held, end-over held) (listing-parts at held)
 printed-from at held (p ∷ ps) =
     let s = held ++ p in

@@ -4,6 +4,7 @@ use mathlib.Core.Path.{_≡_}
 use mathlib.Core.List.{List, [], _∷_, _++_}
 use mathlib.Core.Bool.{Bool, cond, true, false}
 use lib.ListN.{length}
+use Rattle.laws.specs.Lists.{joined}
 use Rattle.frame.specs.Limits.{greatestSize}
 use Rattle.frame.specs.Decide.{decide}
 use Rattle.frame.specs.declared.Decision.{Decision}
@@ -29,11 +30,6 @@ printed at held [] = pieceText true at held
 printed at held (p ∷ ps) =
     pieceText false at (held ++ p)
     ++ cond (over false (held ++ p)) [] (printed (at + listedBytes (held ++ p)) (unlisted (held ++ p)) ps)
-
--- all the pieces, one after another
-unfoldable pub joined : List (List ℕ) → List ℕ
-joined [] = []
-joined (p ∷ ps) = p ++ joined ps
 
 pub record Pieces : Type 0 where
   -- however the input is cut, what is printed is its listing

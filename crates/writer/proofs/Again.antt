@@ -9,6 +9,7 @@ use lib.Dec.{eqb}
 use lib.ListN.{length, take, drop, length-append, take-append-drop}
 use lib.Seq.{drop-append-add, drop-drop, length-front, take-all, length-take-le}
 use borrow.Author.Tests.{eq-eqb, ne-eqb, le-ltb, eqb-true, eqb-false, le-leb}
+use Rattle.laws.specs.Lists.{joined}
 use Rattle.laws.proofs.Conds.{cond-left, cond-right}
 use Rattle.laws.proofs.Parts.{nil-of}
 use Rattle.octets.specs.Numbers.{be16At, be32At, bytes16, bytes32, Octets}
@@ -31,7 +32,7 @@ use Rattle.reader.proofs.Sounds.{keep-data}
 use Rattle.writer.specs.Numbers.{done, Writing, writtenNumbers}
 use Rattle.layout.specs.Message.{sizeOf, message, atFront}
 use Rattle.writer.specs.Write.{leastRoom, greatestSeconds, written, startOf, appendOf, beatFits, beatBytes, keepAliveOf}
-use Rattle.writer.specs.Round.{Made, started, appended, joined, entriesOf, entriesIn}
+use Rattle.writer.specs.Round.{Made, started, appended, entriesOf, entriesIn}
 use Rattle.layout.proofs.Messages.{length-message}
 use Rattle.writer.proofs.Messages.{length-data}
 use Rattle.writer.proofs.Outcomes.{well-kind, sound-bounds, sound-entries, start-done, append-done, append-sound, beat-good}

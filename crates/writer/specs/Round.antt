@@ -3,6 +3,7 @@ use Prim.Native.Nat.{ℕ, zero, suc, _+_, _≤_, _<_}
 use mathlib.Core.Path.{_≡_}
 use mathlib.Core.List.{List, [], _∷_, _++_}
 use lib.ListN.{length, getD, take, drop}
+use Rattle.laws.specs.Lists.{joined}
 use Rattle.octets.specs.Numbers.{Octets}
 use Rattle.heartbeat.specs.Beat.{secondsForm, millisecondsForm}
 use Rattle.frame.specs.Limits.{headerEnd, response, keepAlive}
@@ -24,11 +25,6 @@ pub data Made (buf : List ℕ) (kind : ℕ) : List (List ℕ) → ℕ → List �
   started : (e : List ℕ) (n : ℕ) → startOf buf kind e .answer ≡ done ∷ n ∷ [] → Made buf kind (e ∷ []) n (startOf buf kind e .buffer)
   appended : (es : List (List ℕ)) (m : ℕ) (before e : List ℕ) (n : ℕ) → Made buf kind es m before
       → appendOf before kind e .answer ≡ done ∷ n ∷ [] → Made buf kind (es ++ (e ∷ [])) n (appendOf before kind e .buffer)
-
--- entries, one behind another
-abbrev pub joined : List (List ℕ) → List ℕ
-joined [] = []
-joined (e ∷ es) = e ++ joined es
 
 -- count entries of that type, one behind another
 unfoldable pub entriesOf : ℕ → ℕ → List ℕ → List (List ℕ)
