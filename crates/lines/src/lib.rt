@@ -41,7 +41,9 @@ pub fn put_message(out: &mut [u8], at: usize, offset: u64, kind: u8, count: u16,
 // The offset, a word and a number.
 fn put_word(out: &mut [u8], at: usize, offset: u64, word: &[u8], n: u16) -> usize
     requires { ⌜ (at + lineRoom ≤ length (now out)) × (length (now word) ≡ 5) ⌝ }
-    ensures { λ r. ⌜ PutsLine (numberText offset space ++ (now (word .entry) ++ numberText n newline)) (now (out .entry)) at (now (out .exit)) r ⌝ }
+    ensures { λ r. ⌜
+        PutsLine (numberText offset space ++ (now (word .entry) ++ numberText n newline)) (now (out .entry)) at (now (out .exit)) r
+        ⌝ }
 {
     let a = put_number(out, at, offset, b' ');
     let b = put_bytes(out, a, word);

@@ -11,7 +11,8 @@ use Rattle.lines.specs.Puts.{PutsLine}
 use Rattle.lines.proofs.Putting.{puts-then, puts-length}
 use Rattle.lister.specs.Listing.{messagesOf, bytesOf, linesOf, lastLine, listedBytes, unlisted}
 use Rattle.lister.specs.Pieces.{overBy, over, pieceText}
-use Rattle.lister.specs.Lists.{Lists, ListsPiece}
+use Rattle.lister.specs.Turns.{ListsPiece}
+use Rattle.lister.specs.Scaffold.{Lists}
 use Rattle.lister.specs.declared.Listed.{Listed}
 
 module _ {s before mid rest : List ℕ} {offset : ℕ} {r : Listed} (l : Lists (messagesOf s) s offset before 0 mid r)

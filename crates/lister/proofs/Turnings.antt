@@ -14,8 +14,7 @@ use Rattle.laws.proofs.Tables.{or-neither}
 use Rattle.frame.specs.Limits.{greatestSize}
 use Rattle.lister.specs.Listing.{listedBytes, unlisted}
 use Rattle.lister.specs.Pieces.{over, pieceText}
-use Rattle.lister.specs.Lists.{ListsPiece}
-use Rattle.lister.specs.Turns.{Goes, Turned}
+use Rattle.lister.specs.Turns.{ListsPiece, Goes, Turned}
 use Rattle.lister.specs.declared.Piece.{Piece}
 use Rattle.lister.specs.declared.Next.{Next}
 use Rattle.lister.proofs.Cuts.{end-over, listed-within, pieces-laws}
@@ -53,10 +52,10 @@ module _ (i₀ i₁ i₂ o₀ o₁ : List ℕ) (offset held got : ℕ) (p : Piec
       let n : length a ≡ held + got - p .used = length-take-le (held + got - p .used) (drop (p .used) i₁) (omega (arith, length-drop (p .used) i₁)) in
       rw (m, ← l .used) (take-at a _ (held + got - p .used) n ∙ sym (drop-take (p .used) (held + got) i₁))
 
-  goes : over (eqb got 0) (take (held + got) i₁) ≡ false → (r : Bool)
-      → Goes offset (take held i₀) came i₂ (record { offset = offset + p .used; held = held + got - p .used; over = r })
+  goes : over (eqb got 0) (take (held + got) i₁) ≡ false → (r f : Bool)
+      → Goes offset (take held i₀) came i₂ (record { offset = offset + p .used; held = held + got - p .used; over = r; failed = f })
   unfolding unlisted
-  goes o r =
+  goes o r f =
       let z = on-some got (take (held + got) i₁) o in
       let nz = eqb-false got 0 z in
       let t = length-take-le (held + got) i₁ fits in
@@ -68,15 +67,16 @@ module _ (i₀ i₁ i₂ o₀ o₁ : List ℕ) (offset held got : ℕ) (p : Piec
         kept = rw (← joins) kept;
       }
 
-  pub turned : (w : Bool)
-      → Turned offset (take held i₀) i₂ o₁ (record { offset = offset + p .used; held = held + got - p .used; over = p .over || w })
-  turned w =
+  pub turned : (w f : Bool)
+      → Turned offset (take held i₀) i₂ o₁
+      (record { offset = offset + p .used; held = held + got - p .used; over = p .over || w; failed = f })
+  turned w f =
       record {
         piece = came;
-        failed = w;
+        unwritten = w;
         ends = rw (came-length, ← joins, l .over);
         text = rw (came-length, ← joins, l .puts .text) (put-front o₀ (pieceText (eqb got 0) offset (take (held + got) i₁)) (omega (arith, l .room, l .puts .next, ap length (l .puts .text), length-sets o₀ 0 (pieceText (eqb got 0) offset (take (held + got) i₁)))));
-        goes = λ e. goes (sym (l .over) ∙ or-neither (p .over) w e .0) (p .over || w);
+        goes = λ e. goes (sym (l .over) ∙ or-neither (p .over) w e .0) (p .over || w) f;
       }
 
 -- few bytes are held, and more bytes than before are read

@@ -18,7 +18,7 @@ use Rattle.lines.specs.Text.{messageLine}
 use Rattle.lines.specs.Puts.{Puts, PutsLine}
 use Rattle.lines.proofs.Putting.{puts-none, puts-then}
 use Rattle.lister.specs.Listing.{soundFirst, messagesWithin, messagesOf, bytesOf, lineOf, linesOf}
-use Rattle.lister.specs.Lists.{firstOf, Lists}
+use Rattle.lister.specs.Scaffold.{firstOf, Lists}
 use Rattle.lister.specs.declared.Listed.{Listed}
 use Rattle.lister.proofs.Readings.{read-sound, read-told, read-size}
 

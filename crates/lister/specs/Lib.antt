@@ -1,5 +1,5 @@
 pub mod Listing
 pub mod Pieces
-pub mod Lists
 pub mod Turns
+pub mod Scaffold
 pub mod Sample

@@ -14,8 +14,8 @@ ghost use Rattle.lines.specs.Text.{lineRoom};
 ghost use Rattle.lines.specs.Puts.{PutsLine};
 ghost use Rattle.lister.specs.Listing.{messagesOf, lastLine};
 ghost use Rattle.lister.specs.Pieces.{overBy, Pieces};
-ghost use Rattle.lister.specs.Lists.{firstOf, Lists, ListsPiece};
-ghost use Rattle.lister.specs.Turns.{pieceBytes, TurnReady, Turned};
+ghost use Rattle.lister.specs.Turns.{ListsPiece, Turned};
+ghost use Rattle.lister.specs.Scaffold.{firstOf, Lists, pieceBytes, TurnReady};
 ghost use Rattle.lister.specs.Sample.{SampleListed};
 
 // The input's buffer. A message has at least 10 bytes and a line at most 40, so io's large buffer has room for the lines of a piece.
@@ -38,11 +38,19 @@ struct Piece {
     over: bool,
 }
 
+struct Came {
+    // the bytes read: none where the input ends or cannot be read
+    count: usize,
+    failed: bool,
+}
+
 struct Next {
     // the offset of the first byte held
     offset: u64,
     held: usize,
     over: bool,
+    // the input could not be read, or the text not be written
+    failed: bool,
 }
 
 fn kind_of(m: Message) -> u8
@@ -145,17 +153,23 @@ fn list_piece(s: &[u8], offset: u64, out: &mut [u8], end: bool) -> Piece
     }
 }
 
-// Reads behind the bytes held and answers how many bytes came: none where the input ends or cannot be read.
-fn read_more(buf: &mut [u8], held: usize) -> usize
+// Reads from fd behind the bytes held.
+fn read_more(fd: i32, buf: &mut [u8], held: usize) -> Came
     requires { ⌜ held ≤ length (now buf) ⌝ }
-    ensures { λ r. ⌜ (held + r ≤ length (now (buf .exit))) × (take held (now (buf .exit)) ≡ take held (now (buf .entry))) ⌝ }
+    ensures { λ r. ⌜ (held + r .count ≤ length (now (buf .exit))) × (take held (now (buf .exit)) ≡ take held (now (buf .entry))) ⌝ }
 {
-    let got = libc::read(STDIN_FILENO, &mut buf[held..]);
+    let got = libc::read(fd, &mut buf[held..]);
     if got < 0 {
         io::write_all(STDERR_FILENO, b"listing: the input cannot be read\n");
-        return 0;
+        return Came {
+            count: 0,
+            failed: true,
+        };
     }
-    io::count(got, &buf[held..])
+    Came {
+        count: io::count(got, &buf[held..]),
+        failed: false,
+    }
 }
 
 // Answers whether all was written.
@@ -179,12 +193,13 @@ fn move_down(buf: &mut [u8], from: usize, n: usize)
     }
 }
 
-// Reads once, lists what came behind the bytes held, and keeps what is left.
-fn turn(input: &mut [u8], out: &mut [u8], offset: u64, held: usize) -> Next
+// Reads once from fd, lists what came behind the bytes held, and keeps what is left.
+fn turn(fd: i32, input: &mut [u8], out: &mut [u8], offset: u64, held: usize) -> Next
     requires { ⌜ TurnReady (now input) (now out) offset held ⌝ }
     ensures { λ r. ⌜ Turned offset (take held (now (input .entry))) (now (input .exit)) (now (out .exit)) r ⌝ }
 {
-    let got = read_more(input, held);
+    let came = read_more(fd, input, held);
+    let got = came.count;
     let end = held + got;
     let done = list_piece(&input[..end], offset, out, got == 0);
     let put = done.put;
@@ -195,6 +210,7 @@ fn turn(input: &mut [u8], out: &mut [u8], offset: u64, held: usize) -> Next
         offset: offset + used as u64,
         held: end - used,
         over: done.over | !is_written,
+        failed: came.failed | !is_written,
     }
 }
 
@@ -204,8 +220,9 @@ fn input_buffer() -> [u8; PIECE]
     [0; PIECE]
 }
 
-// Lists standard input on standard output. Each turn but the last reads a byte or more, so offset and bytes held grow to their limit.
-pub fn run() {
+// Lists what is read from fd on standard output, and answers whether all was read and written.
+// Each turn but the last reads a byte or more, so offset and bytes held grow to their limit.
+pub fn list(fd: i32) -> bool {
     let mut space = input_buffer();
     let mut text = io::large_buffer();
     let input: &mut [u8] = &mut space;
@@ -213,13 +230,19 @@ pub fn run() {
     let mut offset = 0;
     let mut held = 0;
     while offset < GREATEST_OFFSET {
-        let t = turn(input, out, offset, held);
+        let t = turn(fd, input, out, offset, held);
         if t.over {
-            return;
+            return !t.failed;
         }
         offset = t.offset;
         held = t.held;
     }
+    false
+}
+
+// Lists standard input.
+pub fn run() {
+    list(STDIN_FILENO);
 }
 
 // The laws by which input that comes in pieces is listed as the whole.

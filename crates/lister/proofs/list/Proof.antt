@@ -1,4 +1,4 @@
-use Rattle.lister.specs.Turns.{pieceBytes, textBytes}
+use Rattle.lister.specs.Scaffold.{pieceBytes, textBytes}
 use lib.Seq.{length-take-le}
 use Rattle.lister.proofs.Turnings.{goes-on}
 use Prim.Native.Nat.{_+_, _-_, _≤_}
@@ -7,14 +7,14 @@ use native.Mathlib.Omega.{arith}
 use lib.ListN.{length}
 use borrow.Author.Needs.{needs}
 use Rattle.frame.specs.Limits.{greatestSize}
-use Rattle.lister.proofs.run.Statement.{statement}
-use Rattle.lister.proofs.run.Tie as tie
+use Rattle.lister.proofs.list.Statement.{statement}
+use Rattle.lister.proofs.list.Tie as tie
 
 abbrev Inv-loop : tie.InvT-loop
-Inv-loop input₀ out₀ offset₀ held₀ input out offset held = (length input ≡ pieceBytes) × (length out ≡ textBytes) × (held ≤ greatestSize)
+Inv-loop fd input₀ out₀ offset₀ held₀ input out offset held = (length input ≡ pieceBytes) × (length out ≡ textBytes) × (held ≤ greatestSize)
 
 abbrev μ-loop : tie.MeasureT-loop
-μ-loop input₀ out₀ offset₀ held₀ input out offset held = 18446744073709551616 - (offset + held)
+μ-loop fd input₀ out₀ offset₀ held₀ input out offset held = 18446744073709551616 - (offset + held)
 
 input-buffer-requires : tie.Need-input-buffer-requires Inv-loop μ-loop
 input-buffer-requires c κs = search needs
@@ -56,8 +56,8 @@ loop-again c =
 returns-2 : tie.Need-returns-2 Inv-loop μ-loop
 returns-2 c = search needs
 
-pub run-spec : {M : Type 1} → statement M
-run-spec =
+pub list-spec : {M : Type 1} → statement M
+list-spec =
     tie.close
     (tie.spec
     Inv-loop

@@ -1,0 +1,40 @@
+-- For the contracts of inner functions and for proofs: no rule is here.
+use Prim.Native.Nat.{ℕ, _+_, _*_, _≤_, _<_}
+use mathlib.Core.Path.{_≡_}
+use mathlib.Core.List.{List, []}
+use lib.ListN.{length}
+use Rattle.frame.specs.Limits.{greatestSize}
+use Rattle.frame.specs.Decide.{decide}
+use Rattle.lines.specs.Puts.{Puts}
+use Rattle.lister.specs.declared.Listed.{Listed}
+use Rattle.lister.specs.Listing.{soundFirst, bytesOf, linesOf}
+
+-- the message at the front of s, if it is sound
+unfoldable pub firstOf : List ℕ → List (List ℕ)
+firstOf s = soundFirst (decide s) s []
+
+-- ms, messages at the front of s, which stands from the offset on, were listed
+pub record Lists (ms : List (List ℕ)) (s : List ℕ) (offset : ℕ) (before : List ℕ) (at : ℕ) (after : List ℕ) (r : Listed) : Type 0 where
+  pub used : r .used ≡ bytesOf ms
+  pub within : r .used ≤ length s
+  pub puts : Puts (linesOf offset ms) before at after (r .put)
+  -- a message has at least 10 bytes
+  pub room : r .put ≤ at + 4 * r .used
+
+-- the bytes that the input's buffer holds, and the output's
+abbrev pub pieceBytes : ℕ
+pieceBytes = 16000
+
+abbrev pub textBytes : ℕ
+textBytes = 65536
+
+-- below it every offset of a piece fits 64 bits
+abbrev pub greatestOffset : ℕ
+greatestOffset = 18446744073709500000
+
+-- the buffers, and few bytes held, from an offset on that can be counted
+pub record TurnReady (input out : List ℕ) (offset held : ℕ) : Type 0 where
+  pub input-length : length input ≡ pieceBytes
+  pub out-length : length out ≡ textBytes
+  pub counted : offset < greatestOffset
+  pub few : held ≤ greatestSize
