@@ -1,7 +1,7 @@
 // The examples of document 01 that are not starred, run by the calls of the endpoint, the reader and the writer: a line for each.
-use endpoint::Delivery;
+use answers::Delivery;
+use answers::Ticking;
 use endpoint::Record;
-use endpoint::Ticking;
 use libc::STDOUT_FILENO;
 use reader::Reading;
 use writer::Written;

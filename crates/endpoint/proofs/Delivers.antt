@@ -19,29 +19,31 @@ use Rattle.device.specs.declared.Device.{Device}
 use Rattle.serve.specs.Sound.{Ruled, soundOf}
 use Rattle.device.specs.State.{livesIn}
 use Rattle.endpoint.specs.State.{stateOf, recordObeys, closedState}
-use Rattle.endpoint.specs.Numbers.{badRecord, badArea, noConnection, noRoom, deliveryNumbers, Outcome, outcome, refused}
+use Rattle.numbers.specs.Refusal.{badRecord, badArea, noConnection, noRoom}
+use Rattle.answers.specs.Numbers.{deliveryNumbers}
+use Rattle.endpoint.specs.Outcome.{Outcome, outcome, refused}
 use Rattle.endpoint.specs.Deliver.{leastOutput, heldAt, messaged, deliveredBy, takenIn, deliverCall}
 use Rattle.endpoint.specs.declared.Record.{Record}
-use Rattle.endpoint.specs.declared.Delivery.the-variants.{More, Message, Closed}
+use Rattle.answers.specs.declared.Delivery.the-variants.{More, Message, Closed}
 use Rattle.endpoint.proofs.States.{live-low}
 
 pub messaged-is : (q : Ruled) (r : Record) (area : List ℕ) (n taken : ℕ) (out : List ℕ) (l : ℕ) (d : Device) (a o : List ℕ)
     → l ≡ length (q .reply) → d ≡ q .device → a ≡ partCleared area n → o ≡ atFront (q .reply) out
     → outcome (deliveryNumbers (Message taken l)) (stateOf d (set (r .held) n 0)) a o ≡ messaged q r area n taken out
-unfolding messaged deliveryNumbers
+unfolding messaged
 messaged-is q r area n taken out l d a o e1 e2 e3 e4 = rw (e1, e2, e3, e4)
 
 module _ (r : Record) (area : List ℕ) (n k : ℕ) (piece out : List ℕ) where
   pub taken-waits : (s : Record) (a : List ℕ) → decide (undecidedOf area n k ++ piece) ≡ Undecided
       → s ≡ stateOf (r .device) (set (r .held) n (k + length piece)) → a ≡ sets area (partAt n + k) piece
       → outcome (deliveryNumbers (More (length piece))) s a out ≡ takenIn r area n k piece out
-  unfolding takenIn deliveredBy deliveryNumbers
+  unfolding takenIn deliveredBy
   taken-waits s a e e1 e2 = rw (e, e1, e2)
 
   pub taken-closed : (fault t : ℕ) (s : Record) (a : List ℕ) → decide (undecidedOf area n k ++ piece) ≡ Faulty fault t
       → s ≡ closedState r n → a ≡ partCleared area n
       → outcome (deliveryNumbers (Closed (t - k) fault)) s a out ≡ takenIn r area n k piece out
-  unfolding takenIn deliveredBy deliveryNumbers
+  unfolding takenIn deliveredBy
   taken-closed fault t s a e e1 e2 = rw (e, e1, e2)
 
   pub taken-runs : (t : ℕ) (g : List ℕ) (o : Outcome) → decide (undecidedOf area n k ++ piece) ≡ Sound t

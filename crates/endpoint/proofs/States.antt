@@ -21,7 +21,8 @@ use Rattle.device.specs.declared.Opening.the-variants as opening
 use Rattle.device.specs.declared.Ticked.{Ticked}
 use Rattle.device.specs.declared.Ticking.the-variants as ticking
 use Rattle.endpoint.specs.State.{stateOf, recordObeys, closedState}
-use Rattle.endpoint.specs.Numbers.{badRecord, badArea, noConnection, tableFull, clockBack, overrun, Outcome, outcome, refused}
+use Rattle.numbers.specs.Refusal.{badRecord, badArea, noConnection, tableFull, clockBack, overrun}
+use Rattle.endpoint.specs.Outcome.{Outcome, outcome, refused}
 use Rattle.endpoint.specs.Calls.{clearAnswer, clearedArea, openedBy, openCall, closeCall, tickedBy, tickCall}
 use Rattle.endpoint.specs.declared.Record.{Record}
 

@@ -33,11 +33,12 @@ use Rattle.device.specs.Obeys.{deviceObeys}
 use Rattle.device.specs.Run.{muteAt}
 use Rattle.device.specs.declared.Device.{Device}
 use Rattle.endpoint.specs.State.{stateOf, recordObeys}
-use Rattle.endpoint.specs.Numbers.{takingNumbers, Outcome, outcome}
+use Rattle.answers.specs.Numbers.{takingNumbers}
+use Rattle.endpoint.specs.Outcome.{Outcome, outcome}
 use Rattle.endpoint.specs.Deliver.{leastOutput}
 use Rattle.endpoint.specs.Take.{subscriptionAt, notifiedOf, sentOut, notifying, reminding, takenBy, takeCall}
 use Rattle.endpoint.specs.declared.Record.{Record}
-use Rattle.endpoint.specs.declared.Taking.the-variants.{Nothing, Notification, KeepAlive, BadRecord, NoRoom}
+use Rattle.answers.specs.declared.Taking.the-variants.{Nothing, Notification, KeepAlive, BadRecord, NoRoom}
 
 -- ---- the record rules
 waiting-used : (s : Subscription) → isWaiting s ≡ true → isFree s ≡ false
@@ -108,7 +109,7 @@ pub notified-is : (r : Record) (i at k : ℕ) (f : Device) (out o : List ℕ) �
     → o ≡ atFront (notificationBytes (subscriptionAt (r .device) i) (getD (r .device .mutes) at 0)) out
     → f ≡ notifiedOf (r .device) i
     → outcome (takingNumbers (Notification (subscriptionAt (r .device) i .connection) k)) (stateOf f (r .held)) [] o ≡ notifying r out i
-unfolding notifying muteAt takingNumbers
+unfolding notifying muteAt
 notified-is r i at k f out o a p q e =
     let s = subscriptionAt (r .device) i in
     let m = notificationBytes s (getD (r .device .mutes) (placeOf (s .emitter)) 0) in
@@ -117,7 +118,7 @@ notified-is r i at k f out o a p q e =
 pub reminded-is : (r : Record) (n k : ℕ) (h : Heartbeat) (f : Device) (out o : List ℕ) → h ≡ heartbeatKept (getD (r .device .connections) n closed)
     → k ≡ length (keepAliveBytes h) → o ≡ atFront (keepAliveBytes h) out → f ≡ sentAt (r .device) n
     → outcome (takingNumbers (KeepAlive n k)) (stateOf f (r .held)) [] o ≡ reminding r out n
-unfolding reminding takingNumbers
+unfolding reminding
 reminded-is r n k h f out o a p q e =
     let m = keepAliveBytes (heartbeatKept (getD (r .device .connections) n closed)) in
     sent-is 2 n k m r (sentAt (r .device) n) f out o (rw a at p) (rw a at q) e
@@ -128,12 +129,12 @@ rules-hold r b q t = sym q ∙ not-false b t
 
 module _ (r : Record) (out : List ℕ) (b : Bool) (q : b ≡ recordObeys r) where
   pub take-broken : not b ≡ true → outcome (takingNumbers BadRecord) r [] out ≡ takeCall r out
-  unfolding takeCall takingNumbers
+  unfolding takeCall
   take-broken t = rw (← q, not-true b t)
 
   module _ (t : not b ≡ false) where
     pub take-short : length out < leastOutput → outcome (takingNumbers NoRoom) r [] out ≡ takeCall r out
-    unfolding takeCall takingNumbers
+    unfolding takeCall
     take-short h = rw (← q, not-false b t, lt-ltb (length out) leastOutput h)
 
     module _ (room : leastOutput ≤ length out) (i : ℕ) (qi : i ≡ lowestWaiting (r .device .subscriptions)) where
@@ -148,6 +149,6 @@ module _ (r : Record) (out : List ℕ) (b : Bool) (q : b ≡ recordObeys r) wher
             rw (← q, not-false b t, le-ltb (length out) leastOutput room, ← qi, le-ltb i entryCount past, ← qn, lt-ltb n connectionCount h) e
 
         pub take-nothing : connectionCount ≤ n → outcome (takingNumbers Nothing) r [] out ≡ takeCall r out
-        unfolding takeCall takenBy takingNumbers
+        unfolding takeCall takenBy
         take-nothing h =
             rw (← q, not-false b t, le-ltb (length out) leastOutput room, ← qi, le-ltb i entryCount past, ← qn, le-ltb n connectionCount h)

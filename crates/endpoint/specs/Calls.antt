@@ -11,25 +11,31 @@ use Rattle.device.specs.State.{openOf, livesIn}
 use Rattle.device.specs.Time.{tickOf}
 use Rattle.device.specs.declared.Opened.{Opened}
 use Rattle.device.specs.declared.Opening.{Opening}
-use Rattle.device.specs.declared.Opening.the-variants as opening
+use Rattle.device.specs.declared.Opening.the-variants as opens
 use Rattle.device.specs.declared.Ticked.{Ticked}
 use Rattle.device.specs.declared.Ticking.{Ticking}
-use Rattle.device.specs.declared.Ticking.the-variants as ticking
+use Rattle.device.specs.declared.Ticking.the-variants as ticks
+use Rattle.answers.specs.Numbers.{clearingNumbers, openingNumbers, closingNumbers, tickingNumbers}
+use Rattle.answers.specs.declared.Clearing.the-variants as clearing
+use Rattle.answers.specs.declared.Opening.the-variants as opening
+use Rattle.answers.specs.declared.Closing.the-variants as closing
+use Rattle.answers.specs.declared.Ticking.the-variants as ticking
 use Rattle.endpoint.specs.State.{stateOf, recordObeys, closedState}
-use Rattle.endpoint.specs.Numbers.{badRecord, badArea, noConnection, tableFull, clockBack, overrun, Outcome, outcome, refused}
+use Rattle.numbers.specs.Refusal.{badRecord, badArea, noConnection, tableFull, clockBack, overrun}
+use Rattle.endpoint.specs.Outcome.{Outcome, outcome, refused}
 use Rattle.endpoint.specs.declared.Record.{Record}
 
 -- "The call that zeros an area refuses only by its length": its answer, and the area
 unfoldable pub clearAnswer : List ℕ → List ℕ
-clearAnswer area = cond (eqb (length area) areaBytes) (0 ∷ []) (badArea ∷ [])
+clearAnswer area = cond (eqb (length area) areaBytes) (clearingNumbers clearing.Done) (clearingNumbers clearing.BadArea)
 
 unfoldable pub clearedArea : List ℕ → List ℕ
 clearedArea area = cond (eqb (length area) areaBytes) (zeros areaBytes) area
 
 -- "Opening gives the lowest free number with all counts zero"; "5 TableFull: opening with 8 open"
 unfoldable pub openedBy : Opening → Record → Opened → Outcome
-openedBy (opening.Number n) r o = outcome (0 ∷ n ∷ []) (stateOf (o .device) (r .held)) [] []
-openedBy opening.Full r o = refused tableFull r [] []
+openedBy (opens.Number n) r o = outcome (openingNumbers (opening.Number n)) (stateOf (o .device) (r .held)) [] []
+openedBy opens.Full r o = refused tableFull r [] []
 
 unfoldable pub openCall : Record → Outcome
 openCall r = cond (recordObeys r) (openedBy (openOf (r .device) .answer) r (openOf (r .device))) (refused badRecord r [] [])
@@ -40,17 +46,18 @@ closeCall r area n =
     cond (recordObeys r)
     (cond (areaSound (r .held) area)
     (cond (liveAt (r .device .connections) n)
-    (outcome (0 ∷ []) (closedState r n) (partCleared area n) [])
+    (outcome (closingNumbers closing.Done) (closedState r n) (partCleared area n) [])
     (refused noConnection r area []))
     (refused badArea r area []))
     (refused badRecord r area [])
 
 -- a tick: whoever is then not open has no count and no byte
 unfoldable pub tickedBy : Ticking → Record → Ticked → List ℕ → Outcome
-tickedBy (ticking.Closed mask) r t area =
-    outcome (0 ∷ mask ∷ []) (stateOf (t .device) (heldKept (livesIn (t .device)) (r .held))) (closedCleared (livesIn (t .device)) area) []
-tickedBy ticking.ClockBack r t area = refused clockBack r area []
-tickedBy ticking.Overrun r t area = refused overrun r area []
+tickedBy (ticks.Closed mask) r t area =
+    outcome (tickingNumbers (ticking.Closed mask))
+    (stateOf (t .device) (heldKept (livesIn (t .device)) (r .held))) (closedCleared (livesIn (t .device)) area) []
+tickedBy ticks.ClockBack r t area = refused clockBack r area []
+tickedBy ticks.Overrun r t area = refused overrun r area []
 
 unfoldable pub tickCall : Record → List ℕ → ℕ → Outcome
 tickCall r area reading =

@@ -13,7 +13,8 @@ use Rattle.area.specs.Area.{partAt, areaSound, undecidedOf, partCleared}
 use Rattle.connection.specs.State.{liveAt}
 use Rattle.serve.specs.Sound.{Ruled, soundOf}
 use Rattle.endpoint.specs.State.{stateOf, recordObeys, closedState}
-use Rattle.endpoint.specs.Numbers.{badRecord, badArea, noConnection, noRoom, Outcome, outcome, refused}
+use Rattle.numbers.specs.Refusal.{badRecord, badArea, noConnection, noRoom}
+use Rattle.endpoint.specs.Outcome.{Outcome, outcome, refused}
 use Rattle.endpoint.specs.declared.Record.{Record}
 
 -- "4 NoRoom: output under 4,096 (delivery, take)"

@@ -1,5 +1,5 @@
 pub mod State
-pub mod Numbers
+pub mod Outcome
 pub mod Calls
 pub mod Deliver
 pub mod Take

@@ -14,7 +14,8 @@ use Rattle.device.specs.Run.{muteAt}
 use Rattle.device.specs.declared.Device.{Device}
 use Rattle.replies.specs.Bytes.{notificationBytes, keepAliveBytes}
 use Rattle.endpoint.specs.State.{stateOf, recordObeys}
-use Rattle.endpoint.specs.Numbers.{badRecord, noRoom, Outcome, outcome, refused}
+use Rattle.numbers.specs.Refusal.{badRecord, noRoom}
+use Rattle.endpoint.specs.Outcome.{Outcome, outcome, refused}
 use Rattle.endpoint.specs.Deliver.{leastOutput}
 use Rattle.endpoint.specs.declared.Record.{Record}
 

@@ -1,7 +1,7 @@
 // A delivery: gather, decide, and then wait, close or run.
 use crate::Delivered;
-use crate::Delivery;
 use crate::Record;
+use answers::Delivery;
 use frame::Decision;
 ghost use mathlib.Core.Path.{_≡_};
 ghost use Prim.Native.Nat.{_-_, _<_, _≤_};
@@ -10,7 +10,8 @@ ghost use Rattle.area.specs.Area.{undecidedOf};
 ghost use Rattle.area.specs.Scaffold.{Lying, MessageLies};
 ghost use Rattle.serve.specs.Sound.{soundOf};
 ghost use Rattle.endpoint.specs.State.{stateOf};
-ghost use Rattle.endpoint.specs.Numbers.{deliveryNumbers, outcome};
+ghost use Rattle.answers.specs.Numbers.{deliveryNumbers};
+ghost use Rattle.endpoint.specs.Outcome.{outcome};
 ghost use Rattle.endpoint.specs.Deliver.{leastOutput, heldAt, messaged, takenIn, deliverCall};
 
 impl Record {

@@ -1,4 +1,10 @@
 // The endpoint: the record that is passed and handed back, the lent area, and the calls of a host.
+use answers::Clearing;
+use answers::Closing;
+use answers::Delivery;
+use answers::Opening;
+use answers::Taking;
+use answers::Ticking;
 use connection::Connection;
 use device::Device;
 ghost use mathlib.Core.Path.{_≡_};
@@ -9,9 +15,10 @@ ghost use Rattle.area.specs.Area.{areaBytes};
 ghost use Rattle.device.specs.Time.{tickOf};
 ghost use Rattle.device.specs.State.{livesIn};
 ghost use Rattle.endpoint.specs.State.{freshState, recordObeys, closedState};
-ghost use Rattle.endpoint.specs.Numbers.{clearingNumbers, openingNumbers, closingNumbers, tickingNumbers, outcome};
+ghost use Rattle.answers.specs.Numbers.{clearingNumbers, openingNumbers, closingNumbers, tickingNumbers};
+ghost use Rattle.endpoint.specs.Outcome.{outcome};
 ghost use Rattle.endpoint.specs.Calls.{clearAnswer, clearedArea, openCall, closeCall, tickedBy, tickCall};
-ghost use Rattle.endpoint.specs.Tell.{AnswersTell};
+ghost use Rattle.endpoint.specs.Tell.{ResultsTell};
 
 pub mod deliver;
 pub mod take;
@@ -26,27 +33,9 @@ pub struct Record {
     pub held: [u16; 8],
 }
 
-pub enum Clearing {
-    Done,
-    BadArea,
-}
-
-pub enum Opening {
-    Number(u8),
-    BadRecord,
-    TableFull,
-}
-
 pub struct Opened {
     pub state: Record,
     pub answer: Opening,
-}
-
-pub enum Closing {
-    Done,
-    BadRecord,
-    BadArea,
-    NoConnection,
 }
 
 pub struct Closed {
@@ -54,44 +43,14 @@ pub struct Closed {
     pub answer: Closing,
 }
 
-pub enum Ticking {
-    Closed(u8),
-    BadRecord,
-    BadArea,
-    ClockBack,
-    Overrun,
-}
-
 pub struct Ticked {
     pub state: Record,
     pub answer: Ticking,
 }
 
-pub enum Delivery {
-    // how many bytes were taken
-    More(usize),
-    // and the length of the reply
-    Message(usize, usize),
-    // and the fault
-    Closed(usize, u8),
-    BadRecord,
-    BadArea,
-    NoConnection,
-    NoRoom,
-}
-
 pub struct Delivered {
     pub state: Record,
     pub answer: Delivery,
-}
-
-pub enum Taking {
-    Nothing,
-    // the connection, and the message's length
-    Notification(u8, usize),
-    KeepAlive(u8, usize),
-    BadRecord,
-    NoRoom,
 }
 
 pub struct Taken {
@@ -274,7 +233,7 @@ impl Record {
     }
 }
 
-// The numbers of an answer tell it from every other.
-pub fn answers_tell()
-    ensures { λ _. ⌜ AnswersTell ⌝ }
+// Two results of a call that its outcome allows are equal.
+pub fn results_tell()
+    ensures { λ _. ⌜ ResultsTell ⌝ }
 {}

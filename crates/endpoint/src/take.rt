@@ -1,7 +1,7 @@
 // Taking one message that waits to be sent.
 use crate::Record;
 use crate::Taken;
-use crate::Taking;
+use answers::Taking;
 use device::Device;
 ghost use mathlib.Core.Path.{_≡_};
 ghost use mathlib.Core.Bool.{true};
@@ -10,7 +10,8 @@ ghost use Prim.Native.Nat.{_<_, _≤_};
 ghost use lib.ListN.{length};
 ghost use Rattle.subscription.specs.State.{isWaiting};
 ghost use Rattle.endpoint.specs.State.{recordObeys};
-ghost use Rattle.endpoint.specs.Numbers.{takingNumbers, outcome};
+ghost use Rattle.answers.specs.Numbers.{takingNumbers};
+ghost use Rattle.endpoint.specs.Outcome.{outcome};
 ghost use Rattle.endpoint.specs.Deliver.{leastOutput};
 ghost use Rattle.endpoint.specs.Take.{subscriptionAt, notifiedOf, notifying, reminding, takeCall};
 

@@ -1,11 +1,11 @@
 // An evening in a hall, through the calls of the endpoint: two tablets (connections 0 and 1), a panel (2), and channel 5, object 4101.
-use endpoint::Clearing;
-use endpoint::Closing;
-use endpoint::Delivery;
-use endpoint::Opening;
+use answers::Clearing;
+use answers::Closing;
+use answers::Delivery;
+use answers::Opening;
+use answers::Taking;
+use answers::Ticking;
 use endpoint::Record;
-use endpoint::Taking;
-use endpoint::Ticking;
 use libc::STDOUT_FILENO;
 ghost use mathlib.Core.Path.{_≡_};
 ghost use lib.ListN.{length};

@@ -6,7 +6,8 @@ use native.Mathlib.Omega.{arith}
 use lib.Dec.{ltb, eqb}
 use borrow.Author.Tests.{ltb-false, eqb-true}
 use Rattle.laws.proofs.Conds.{cond-left, cond-right}
-use Rattle.frame.specs.Limits.{version, leastSize, greatestSize, keepAlive, faultVersion, faultSize, faultType}
+use Rattle.numbers.specs.Fault.{faultVersion, faultSize, faultType}
+use Rattle.frame.specs.Limits.{version, leastSize, greatestSize, keepAlive}
 use Rattle.frame.specs.Header.{protocolVersion, pduSize, pduType, messageCount, countFault, fieldsFault, headerFault}
 
 -- what a header without a fault says

@@ -8,7 +8,8 @@ use lib.ListN.{length, take, drop, getD}
 use lib.Seq.{getD-take, length-take-le}
 use Rattle.octets.specs.Numbers.{be16At, be32At}
 use Rattle.laws.proofs.Conds.{cond-left}
-use Rattle.frame.specs.Limits.{headerEnd, faultData}
+use Rattle.numbers.specs.Fault.{faultData}
+use Rattle.frame.specs.Limits.{headerEnd}
 use Rattle.frame.specs.Header.{pduSize, pduType, messageCount, messageLength, headerFault}
 use Rattle.frame.specs.Decide.{dataSound, decideData, decide, settled}
 use Rattle.frame.specs.Sound.{SoundAt}

@@ -9,7 +9,8 @@ use lib.ListN.{length, take, drop, getD, length-take, take-append-drop}
 use lib.Seq.{getD-take, take-take, take-append-le, length-take-le}
 use borrow.Author.Tests.{eq-eqb, ne-eqb, lt-ltb, le-ltb, ltb-true, ltb-false, eqb-true, eqb-false}
 use Rattle.octets.specs.Numbers.{be16At, be32At}
-use Rattle.frame.specs.Limits.{sync, headerEnd, greatestSize, faultStart, faultData}
+use Rattle.numbers.specs.Fault.{faultStart, faultData}
+use Rattle.frame.specs.Limits.{sync, headerEnd, greatestSize}
 use Rattle.frame.specs.Header.{pduSize, pduType, messageCount, messageLength, headerFault}
 use Rattle.frame.specs.Decide.{dataSound, decideData, decideHeader, decide, taken, settled}
 use Rattle.frame.specs.Deciding.{Deciding}

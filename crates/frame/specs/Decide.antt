@@ -4,7 +4,8 @@ use mathlib.Core.List.{List}
 use mathlib.Core.Bool.{Bool, cond, true, false}
 use lib.ListN.{length, getD, take, drop}
 use lib.Dec.{ltb, eqb}
-use Rattle.frame.specs.Limits.{sync, headerEnd, keepAlive, secondsBytes, millisecondsBytes, faultStart, faultData}
+use Rattle.numbers.specs.Fault.{faultStart, faultData}
+use Rattle.frame.specs.Limits.{sync, headerEnd, keepAlive, secondsBytes, millisecondsBytes}
 use Rattle.frame.specs.Header.{pduType, messageCount, messageLength, headerFault}
 use Rattle.frame.specs.Entry.{entriesFill}
 use Rattle.frame.specs.declared.Decision.{Decision}

@@ -5,7 +5,8 @@ use mathlib.Core.Bool.{cond}
 use lib.ListN.{getD}
 use lib.Dec.{ltb, eqb}
 use Rattle.octets.specs.Numbers.{be16At, be32At}
-use Rattle.frame.specs.Limits.{version, leastSize, greatestSize, keepAlive, faultVersion, faultSize, faultType, faultCount}
+use Rattle.numbers.specs.Fault.{faultVersion, faultSize, faultType, faultCount}
+use Rattle.frame.specs.Limits.{version, leastSize, greatestSize, keepAlive}
 
 -- "protocolVersion 2 bytes (always 1), pduSize 4 (header and data, without the 3B), pduType 1, messageCount 2"
 abbrev pub protocolVersion : List ℕ → ℕ

@@ -49,22 +49,3 @@ secondsBytes = 2
 
 abbrev pub millisecondsBytes : ℕ
 millisecondsBytes = 4
-
--- the faults of "The deciding byte"
-abbrev pub faultStart : ℕ
-faultStart = 1
-
-abbrev pub faultVersion : ℕ
-faultVersion = 2
-
-abbrev pub faultSize : ℕ
-faultSize = 3
-
-abbrev pub faultType : ℕ
-faultType = 4
-
-abbrev pub faultCount : ℕ
-faultCount = 5
-
-abbrev pub faultData : ℕ
-faultData = 6

@@ -17,6 +17,10 @@ pub const LEAST_SIZE: u32 = 9;
 
 pub const GREATEST_SIZE: u32 = 2048;
 
+pub const COMMAND: u8 = 0;
+
+pub const COMMAND_WANTING_REPLY: u8 = 1;
+
 pub const NOTIFICATION: u8 = 2;
 
 pub const RESPONSE: u8 = 3;
@@ -33,18 +37,6 @@ pub const SECONDS_BYTES: usize = 2;
 
 pub const MILLISECONDS_BYTES: usize = 4;
 
-pub const FAULT_START: u8 = 1;
-
-pub const FAULT_VERSION: u8 = 2;
-
-pub const FAULT_SIZE: u8 = 3;
-
-pub const FAULT_TYPE: u8 = 4;
-
-pub const FAULT_COUNT: u8 = 5;
-
-pub const FAULT_DATA: u8 = 6;
-
 // What the bytes so far decide, with how many of them that takes.
 pub enum Decision {
     Undecided,
@@ -56,7 +48,7 @@ fn count_fault(kind: u8, count: u16) -> u8
     ensures { λ r. ⌜ r ≡ countFault kind count ⌝ }
 {
     if count == 0 {
-        return FAULT_COUNT;
+        return numbers::FAULT_COUNT;
     }
     if kind != KEEP_ALIVE {
         return 0;
@@ -64,7 +56,7 @@ fn count_fault(kind: u8, count: u16) -> u8
     if count == 1 {
         return 0;
     }
-    FAULT_COUNT
+    numbers::FAULT_COUNT
 }
 
 // The first fault of the header's fields, 2 to 5, or 0.
@@ -72,16 +64,16 @@ fn fields_fault(version: u16, size: u32, kind: u8, count: u16) -> u8
     ensures { λ r. ⌜ r ≡ fieldsFault version size kind count ⌝ }
 {
     if version != VERSION {
-        return FAULT_VERSION;
+        return numbers::FAULT_VERSION;
     }
     if size < LEAST_SIZE {
-        return FAULT_SIZE;
+        return numbers::FAULT_SIZE;
     }
     if GREATEST_SIZE < size {
-        return FAULT_SIZE;
+        return numbers::FAULT_SIZE;
     }
     if KEEP_ALIVE < kind {
-        return FAULT_TYPE;
+        return numbers::FAULT_TYPE;
     }
     count_fault(kind, count)
 }
@@ -228,7 +220,7 @@ fn decide_data(m: &[u8]) -> Decision
     if data_sound(m[7], octets::be16(m, 8), &m[HEADER_END..]) {
         return Decision::Sound(m.len());
     }
-    Decision::Faulty(FAULT_DATA, m.len())
+    Decision::Faulty(numbers::FAULT_DATA, m.len())
 }
 
 // s has a whole header.
@@ -255,7 +247,7 @@ pub fn decide(s: &[u8]) -> Decision
         return Decision::Undecided;
     }
     if s[0] != SYNC {
-        return Decision::Faulty(FAULT_START, 1);
+        return Decision::Faulty(numbers::FAULT_START, 1);
     }
     if s.len() < HEADER_END {
         return Decision::Undecided;

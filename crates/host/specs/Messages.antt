@@ -2,15 +2,19 @@
 use Prim.Native.Nat.{ℕ}
 use mathlib.Core.List.{List}
 use mathlib.Core.Bool.{cond}
-use lib.ListN.{length}
+use lib.ListN.{length, getD}
 use lib.Dec.{eqb}
+use Rattle.numbers.specs.Refusal.{notRefused}
 use Rattle.frame.specs.Limits.{notification, response}
 use Rattle.reader.specs.Entry.{partOf, partStart}
-use Rattle.host.specs.Numbers.{at}
 use Rattle.host.specs.declared.messages.Reading.{Reading}
 use Rattle.host.specs.declared.messages.Entry.{Entry}
 use Rattle.host.specs.declared.messages.Part.{Part}
 use Rattle.host.specs.declared.messages.Written.{Written}
+
+-- a number that an answer does not have is 0
+abbrev pub at : List ℕ → ℕ → ℕ
+at l i = getD l i 0
 
 abbrev pub readingWith : ℕ → ℕ → ℕ → ℕ → ℕ → ℕ → ℕ → Reading
 readingWith number fault kind count form value length =
@@ -19,15 +23,15 @@ readingWith number fault kind count form value length =
 -- "the answer .. is the number alone, with a fault for 8"; else the length and what the message is, a keep-alive's form and value last
 unfoldable pub readingOf : List ℕ → Reading
 readingOf l =
-    cond (eqb (at l 0) 0)
-    (readingWith 0 0 (at l 2) (at l 3) (at l 4) (at l 5) (at l 1))
+    cond (eqb (at l 0) notRefused)
+    (readingWith notRefused 0 (at l 2) (at l 3) (at l 4) (at l 5) (at l 1))
     (readingWith (at l 0) (at l 1) 0 0 0 0 0)
 
 -- "size 4, handle 4, target 4, method 4, parameter count 1"
 unfoldable pub commandFrom : List ℕ → Entry
 commandFrom l =
     record {
-      number = 0;
+      number = notRefused;
       fault = 0;
       kind = 0;
       handle = at l 2;
@@ -46,7 +50,7 @@ commandFrom l =
 unfoldable pub notificationFrom : List ℕ → Entry
 notificationFrom l =
     record {
-      number = 0;
+      number = notRefused;
       fault = 0;
       kind = notification;
       handle = 0;
@@ -83,10 +87,10 @@ plainWith number fault kind handle status count =
 -- "size 4, handle 4, status 1, parameter count 1"; "12 NoEntry"
 unfoldable pub entryFrom : List ℕ → Entry
 entryFrom l =
-    cond (eqb (at l 0) 0)
+    cond (eqb (at l 0) notRefused)
     (cond (eqb (at l 1) 0) (commandFrom l)
     (cond (eqb (at l 1) notification) (notificationFrom l)
-    (plainWith 0 0 response (at l 2) (at l 3) (at l 4))))
+    (plainWith notRefused 0 response (at l 2) (at l 3) (at l 4))))
     (plainWith (at l 0) (at l 1) 0 0 0 0)
 
 -- "hands back its parameters as a part of the caller's message": where it starts and how long it is
@@ -98,4 +102,4 @@ writtenWith number fault length = record { number = number; fault = fault; lengt
 
 -- "its answer is the message's length"; else the number, "with a fault for 8"
 unfoldable pub writtenOf : List ℕ → Written
-writtenOf l = cond (eqb (at l 0) 0) (writtenWith 0 0 (at l 1)) (writtenWith (at l 0) (at l 1) 0)
+writtenOf l = cond (eqb (at l 0) notRefused) (writtenWith notRefused 0 (at l 1)) (writtenWith (at l 0) (at l 1) 0)

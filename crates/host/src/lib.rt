@@ -1,15 +1,17 @@
 // The C boundary: every call of the endpoint, the datagram's, the reader's and the writer's, with numbers, slices and structs by value.
+use answers::Numbers;
 use endpoint::Record;
 ghost use mathlib.Core.Path.{_≡_};
+ghost use Prim.Native.Nat.{_<_};
+ghost use Rattle.numbers.specs.Kind.{kindClosed};
 ghost use Rattle.endpoint.specs.State.{freshState};
 ghost use Rattle.endpoint.specs.Calls.{clearAnswer, clearedArea, openCall, closeCall, tickCall};
 ghost use Rattle.endpoint.specs.Deliver.{deliverCall};
 ghost use Rattle.endpoint.specs.Take.{takeCall};
 ghost use Rattle.reset.specs.Datagram.{datagramCall};
-ghost use Rattle.host.specs.Answers.{clearedOf, openedOf, closedOf, tickedOf, deliveredOf, takenOf, resetOf};
+ghost use Rattle.host.specs.Answers.{clearedOf, openedOf, closedOf, tickedOf, faultIn, lengthIn, deliveredOf, takenOf, resetOf};
 
 pub mod messages;
-mod numbers;
 
 #[repr(C)]
 pub struct Cleared {
@@ -66,6 +68,26 @@ pub struct Reset {
     pub reset: u8,
 }
 
+// The third number of a delivery: a closure's fault, or the length of a message's reply.
+fn fault_in(told: Numbers) -> u8
+    requires { ⌜ (told .first ≡ kindClosed → told .third < 256) ⌝ }
+    ensures { λ r. ⌜ r ≡ faultIn told ⌝ }
+{
+    if told.first == numbers::KIND_CLOSED {
+        return told.third as u8;
+    }
+    0
+}
+
+fn length_in(told: Numbers) -> usize
+    ensures { λ r. ⌜ r ≡ lengthIn told ⌝ }
+{
+    if told.first == numbers::KIND_MESSAGE {
+        return told.third;
+    }
+    0
+}
+
 #[no_mangle]
 pub extern "C" fn melorwyth_fresh(reading: u32) -> Record
     ensures { λ r. ⌜ r ≡ freshState reading ⌝ }
@@ -78,8 +100,9 @@ pub extern "C" fn melorwyth_clear(area: &mut [u8]) -> Cleared
     ensures { λ r. ⌜ (r ≡ clearedOf (clearAnswer (now (area .entry)))) × (now (area .exit) ≡ clearedArea (now (area .entry))) ⌝ }
 {
     let answer = endpoint::clear_area(area);
+    let told = answer.numbers();
     Cleared {
-        number: numbers::of_clearing(answer),
+        number: told.number,
     }
 }
 
@@ -90,39 +113,42 @@ pub extern "C" fn melorwyth_open(state: Record) -> Opened
     let done = state.open();
     let next = done.state;
     let answer = done.answer;
-    let told = numbers::of_opening(answer);
+    let told = answer.numbers();
     Opened {
         state: next,
         number: told.number,
-        connection: told.value,
+        connection: told.first,
     }
 }
 
 #[no_mangle]
 pub extern "C" fn melorwyth_close(state: Record, area: &mut [u8], n: u8) -> Closed
-    ensures { λ r. ⌜ (r ≡ closedOf (closeCall state (now (area .entry)) n)) × (now (area .exit) ≡ closeCall state (now (area .entry)) n .area) ⌝ }
+    ensures { λ r. ⌜ (r ≡ closedOf (closeCall state (now (area .entry)) n))
+        × (now (area .exit) ≡ closeCall state (now (area .entry)) n .area) ⌝ }
 {
     let done = state.close(area, n);
     let next = done.state;
     let answer = done.answer;
+    let told = answer.numbers();
     Closed {
         state: next,
-        number: numbers::of_closing(answer),
+        number: told.number,
     }
 }
 
 #[no_mangle]
 pub extern "C" fn melorwyth_tick(state: Record, area: &mut [u8], reading: u32) -> Ticked
-    ensures { λ r. ⌜ (r ≡ tickedOf (tickCall state (now (area .entry)) reading)) × (now (area .exit) ≡ tickCall state (now (area .entry)) reading .area) ⌝ }
+    ensures { λ r. ⌜ (r ≡ tickedOf (tickCall state (now (area .entry)) reading))
+        × (now (area .exit) ≡ tickCall state (now (area .entry)) reading .area) ⌝ }
 {
     let done = state.tick(area, reading);
     let next = done.state;
     let answer = done.answer;
-    let told = numbers::of_ticking(answer);
+    let told = answer.numbers();
     Ticked {
         state: next,
         number: told.number,
-        closed: told.value,
+        closed: told.first,
     }
 }
 
@@ -141,31 +167,35 @@ pub extern "C" fn melorwyth_deliver(
     let done = state.deliver(area, n, piece, output);
     let next = done.state;
     let answer = done.answer;
-    let told = numbers::of_delivery(answer);
+    let told = answer.numbers();
+    let fault = fault_in(told);
+    let length = length_in(told);
     Delivered {
         state: next,
         number: told.number,
-        kind: told.kind,
-        fault: told.fault,
-        taken: told.taken,
-        length: told.length,
+        kind: told.first,
+        fault,
+        taken: told.second,
+        length,
     }
 }
 
 #[no_mangle]
 pub extern "C" fn melorwyth_take(state: Record, output: &mut [u8]) -> Taken
-    ensures { λ r. ⌜ (r ≡ takenOf (takeCall state (now (output .entry)))) × (now (output .exit) ≡ takeCall state (now (output .entry)) .output) ⌝ }
+    ensures { λ r. ⌜ (r ≡ takenOf (takeCall state (now (output .entry))))
+        × (now (output .exit) ≡ takeCall state (now (output .entry)) .output) ⌝ }
 {
     let done = state.take(output);
     let next = done.state;
     let answer = done.answer;
-    let told = numbers::of_taking(answer);
+    let told = answer.numbers();
+    let connection = told.second as u8;
     Taken {
         state: next,
         number: told.number,
-        kind: told.kind,
-        connection: told.connection,
-        length: told.length,
+        kind: told.first,
+        connection,
+        length: told.third,
     }
 }
 
@@ -177,10 +207,10 @@ pub extern "C" fn melorwyth_datagram(state: Record, area: &mut [u8], datagram: &
     let done = reset::datagram(state, area, datagram);
     let next = done.state;
     let answer = done.answer;
-    let told = numbers::of_resetting(answer);
+    let told = answer.numbers();
     Reset {
         state: next,
         number: told.number,
-        reset: told.value,
+        reset: told.first,
     }
 }

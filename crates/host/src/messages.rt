@@ -4,28 +4,13 @@ use fields::NotificationFields;
 use reader::Message;
 ghost use mathlib.Core.Path.{_≡_};
 ghost use mathlib.Core.List.{_∷_};
+ghost use Rattle.numbers.specs.Refusal.{notRefused};
 ghost use Rattle.reader.specs.Numbers.{messageNumbers, readingNumbers, commandNumbers, notificationNumbers, entryNumbers};
 ghost use Rattle.reader.specs.Read.{readOf};
 ghost use Rattle.reader.specs.Entry.{entryOf};
 ghost use Rattle.writer.specs.Numbers.{writtenNumbers};
 ghost use Rattle.writer.specs.Write.{startOf, appendOf, keepAliveOf};
 ghost use Rattle.host.specs.Messages.{readingWith, readingOf, plainWith, entryFrom, partFrom, writtenWith, writtenOf};
-
-const COMMAND: u8 = 0;
-
-const COMMAND_WANTING_REPLY: u8 = 1;
-
-const NO_ROOM: u8 = 4;
-
-const FAULT: u8 = 8;
-
-const SHORT: u8 = 9;
-
-const TOO_LONG: u8 = 10;
-
-const BAD_ENTRY: u8 = 11;
-
-const NO_ENTRY: u8 = 12;
 
 #[repr(C)]
 pub struct Reading {
@@ -86,10 +71,10 @@ fn unread(number: u8, fault: u8) -> Reading
 }
 
 fn read(kind: u8, count: u16, form: u8, value: u32, length: usize) -> Reading
-    ensures { λ r. ⌜ r ≡ readingWith 0 0 kind count form value length ⌝ }
+    ensures { λ r. ⌜ r ≡ readingWith notRefused 0 kind count form value length ⌝ }
 {
     Reading {
-        number: 0,
+        number: numbers::NOT_REFUSED,
         fault: 0,
         kind,
         count,
@@ -100,11 +85,17 @@ fn read(kind: u8, count: u16, form: u8, value: u32, length: usize) -> Reading
 }
 
 fn of_message(message: Message, length: usize) -> Reading
-    ensures { λ r. ⌜ r ≡ readingOf (0 ∷ length ∷ messageNumbers message) ⌝ }
+    ensures { λ r. ⌜ r ≡ readingOf (notRefused ∷ length ∷ messageNumbers message) ⌝ }
 {
     match message {
-        Message::Command(count) => read(COMMAND, count, 0, 0, length),
-        Message::CommandWantingReply(count) => read(COMMAND_WANTING_REPLY, count, 0, 0, length),
+        Message::Command(count) => read(frame::COMMAND, count, 0, 0, length),
+        Message::CommandWantingReply(count) => read(
+            frame::COMMAND_WANTING_REPLY,
+            count,
+            0,
+            0,
+            length,
+        ),
         Message::Notification(count) => read(frame::NOTIFICATION, count, 0, 0, length),
         Message::Response(count) => read(frame::RESPONSE, count, 0, 0, length),
         Message::KeepAlive(beat) => read(frame::KEEP_ALIVE, 1, beat.form(), beat.value(), length),
@@ -116,8 +107,8 @@ fn of_reading(answer: reader::Reading) -> Reading
 {
     match answer {
         reader::Reading::Read(message, length) => of_message(message, length),
-        reader::Reading::Fault(fault) => unread(FAULT, fault),
-        reader::Reading::Short => unread(SHORT, 0),
+        reader::Reading::Fault(fault) => unread(numbers::FAULT, fault),
+        reader::Reading::Short => unread(numbers::SHORT, 0),
     }
 }
 
@@ -129,13 +120,13 @@ pub extern "C" fn melorwyth_read_message(bytes: &[u8]) -> Reading
 }
 
 fn of_command(c: CommandFields) -> Entry
-    ensures { λ r. ⌜ r ≡ entryFrom (0 ∷ commandNumbers c) ⌝ }
+    ensures { λ r. ⌜ r ≡ entryFrom (notRefused ∷ commandNumbers c) ⌝ }
 {
     let method = c.method;
     Entry {
-        number: 0,
+        number: numbers::NOT_REFUSED,
         fault: 0,
-        kind: 0,
+        kind: frame::COMMAND,
         handle: c.handle,
         target: c.target,
         level: method.level,
@@ -150,12 +141,12 @@ fn of_command(c: CommandFields) -> Entry
 }
 
 fn of_notification(n: NotificationFields) -> Entry
-    ensures { λ r. ⌜ r ≡ entryFrom (0 ∷ notificationNumbers n) ⌝ }
+    ensures { λ r. ⌜ r ≡ entryFrom (notRefused ∷ notificationNumbers n) ⌝ }
 {
     let method = n.method;
     let event = n.event;
     Entry {
-        number: 0,
+        number: numbers::NOT_REFUSED,
         fault: 0,
         kind: frame::NOTIFICATION,
         handle: 0,
@@ -198,10 +189,17 @@ fn of_entry(answer: reader::Entry) -> Entry
     match answer {
         reader::Entry::Command(c) => of_command(c),
         reader::Entry::Notification(n) => of_notification(n),
-        reader::Entry::Response(r) => plain(0, 0, frame::RESPONSE, r.handle, r.status, r.count),
-        reader::Entry::Fault(fault) => plain(FAULT, fault, 0, 0, 0, 0),
-        reader::Entry::Short => plain(SHORT, 0, 0, 0, 0, 0),
-        reader::Entry::NoEntry => plain(NO_ENTRY, 0, 0, 0, 0, 0),
+        reader::Entry::Response(r) => plain(
+            numbers::NOT_REFUSED,
+            0,
+            frame::RESPONSE,
+            r.handle,
+            r.status,
+            r.count,
+        ),
+        reader::Entry::Fault(fault) => plain(numbers::FAULT, fault, 0, 0, 0, 0),
+        reader::Entry::Short => plain(numbers::SHORT, 0, 0, 0, 0, 0),
+        reader::Entry::NoEntry => plain(numbers::NO_ENTRY, 0, 0, 0, 0, 0),
     }
 }
 
@@ -238,31 +236,34 @@ fn of_written(answer: writer::Written) -> Written
     ensures { λ r. ⌜ r ≡ writtenOf (writtenNumbers answer) ⌝ }
 {
     match answer {
-        writer::Written::Length(length) => put(0, 0, length),
-        writer::Written::NoRoom => put(NO_ROOM, 0, 0),
-        writer::Written::Fault(fault) => put(FAULT, fault, 0),
-        writer::Written::TooLong => put(TOO_LONG, 0, 0),
-        writer::Written::BadEntry => put(BAD_ENTRY, 0, 0),
+        writer::Written::Length(length) => put(numbers::NOT_REFUSED, 0, length),
+        writer::Written::NoRoom => put(numbers::NO_ROOM, 0, 0),
+        writer::Written::Fault(fault) => put(numbers::FAULT, fault, 0),
+        writer::Written::TooLong => put(numbers::TOO_LONG, 0, 0),
+        writer::Written::BadEntry => put(numbers::BAD_ENTRY, 0, 0),
     }
 }
 
 #[no_mangle]
 pub extern "C" fn melorwyth_start(buffer: &mut [u8], kind: u8, entry: &[u8]) -> Written
-    ensures { λ r. ⌜ (r ≡ writtenOf (startOf (now (buffer .entry)) kind (now (entry .entry)) .answer)) × (now (buffer .exit) ≡ startOf (now (buffer .entry)) kind (now (entry .entry)) .buffer) ⌝ }
+    ensures { λ r. ⌜ (r ≡ writtenOf (startOf (now (buffer .entry)) kind (now (entry .entry)) .answer))
+        × (now (buffer .exit) ≡ startOf (now (buffer .entry)) kind (now (entry .entry)) .buffer) ⌝ }
 {
     of_written(writer::start(buffer, kind, entry))
 }
 
 #[no_mangle]
 pub extern "C" fn melorwyth_append(buffer: &mut [u8], kind: u8, entry: &[u8]) -> Written
-    ensures { λ r. ⌜ (r ≡ writtenOf (appendOf (now (buffer .entry)) kind (now (entry .entry)) .answer)) × (now (buffer .exit) ≡ appendOf (now (buffer .entry)) kind (now (entry .entry)) .buffer) ⌝ }
+    ensures { λ r. ⌜ (r ≡ writtenOf (appendOf (now (buffer .entry)) kind (now (entry .entry)) .answer))
+        × (now (buffer .exit) ≡ appendOf (now (buffer .entry)) kind (now (entry .entry)) .buffer) ⌝ }
 {
     of_written(writer::append(buffer, kind, entry))
 }
 
 #[no_mangle]
 pub extern "C" fn melorwyth_keep_alive(buffer: &mut [u8], form: u8, value: u32) -> Written
-    ensures { λ r. ⌜ (r ≡ writtenOf (keepAliveOf (now (buffer .entry)) form value .answer)) × (now (buffer .exit) ≡ keepAliveOf (now (buffer .entry)) form value .buffer) ⌝ }
+    ensures { λ r. ⌜ (r ≡ writtenOf (keepAliveOf (now (buffer .entry)) form value .answer))
+        × (now (buffer .exit) ≡ keepAliveOf (now (buffer .entry)) form value .buffer) ⌝ }
 {
     of_written(writer::keep_alive(buffer, form, value))
 }

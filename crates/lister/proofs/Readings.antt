@@ -8,7 +8,8 @@ use lib.Dec.{eqb}
 use lib.ListN.{length, drop, getD}
 use borrow.Author.Tests.{eq-eqb, eqb-true}
 use Rattle.laws.proofs.Conds.{cond-left, cond-right}
-use Rattle.frame.specs.Limits.{headerEnd, greatestSize, keepAlive, faultCount}
+use Rattle.numbers.specs.Fault.{faultCount}
+use Rattle.frame.specs.Limits.{headerEnd, greatestSize, keepAlive}
 use Rattle.frame.specs.Header.{pduSize, pduType, messageCount, countFault}
 use Rattle.frame.specs.Decide.{decide}
 use Rattle.frame.specs.declared.Decision.{Decision}

@@ -33,7 +33,7 @@ use Rattle.device.proofs.Keeps.{rules-kept}
 use Rattle.serve.specs.Sound.{soundOf}
 use Rattle.stream.specs.Machine.{ask}
 use Rattle.endpoint.specs.State.{stateOf, recordObeys}
-use Rattle.endpoint.specs.Numbers.{Outcome, refused}
+use Rattle.endpoint.specs.Outcome.{Outcome, refused}
 use Rattle.endpoint.specs.Calls.{tickCall}
 use Rattle.endpoint.specs.Deliver.{leastOutput, heldAt, messaged, deliveredBy, takenIn, deliverCall}
 use Rattle.endpoint.specs.Take.{subscriptionAt, notifiedOf, sentOut, notifying, reminding, takenBy, takeCall}

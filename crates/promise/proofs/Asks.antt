@@ -26,7 +26,7 @@ use Rattle.stream.specs.Machine.{Call, deliver, ask, Whole, handed, asked, Answ
 use Rattle.stream.specs.Lent.{flat, countsOf, livesOf}
 use Rattle.stream.proofs.Lent.{put-same, put-other, set-counted, clear-flat, closed-flat, held-counted, counted-none, flat-none}
 use Rattle.endpoint.specs.State.{stateOf, freshState, recordObeys, closedState}
-use Rattle.endpoint.specs.Numbers.{Outcome, outcome}
+use Rattle.endpoint.specs.Outcome.{Outcome, outcome}
 use Rattle.endpoint.specs.Calls.{openedBy, openCall, closeCall, tickedBy, tickCall}
 use Rattle.endpoint.specs.Deliver.{leastOutput, takenIn, deliverCall}
 use Rattle.endpoint.specs.Take.{subscriptionAt, notifiedOf, sentOut, notifying, reminding, takenBy, takeCall}

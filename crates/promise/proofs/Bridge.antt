@@ -22,7 +22,8 @@ use Rattle.stream.specs.Lent.{flat, countsOf}
 use Rattle.stream.proofs.Lent.{Small, put-same, put-other, getD-counted, set-counted, undecided-flat, clear-flat, put-flat, area-flat}
 use Rattle.stream.proofs.Stream.{put-elim}
 use Rattle.endpoint.specs.State.{stateOf, recordObeys, closedState}
-use Rattle.endpoint.specs.Numbers.{noConnection, noRoom, Outcome, outcome}
+use Rattle.numbers.specs.Refusal.{noConnection, noRoom}
+use Rattle.endpoint.specs.Outcome.{Outcome, outcome}
 use Rattle.endpoint.specs.Deliver.{leastOutput, messaged, deliveredBy, takenIn, deliverCall}
 use Rattle.endpoint.specs.declared.Record.{Record}
 use Rattle.endpoint.proofs.States.{live-low}

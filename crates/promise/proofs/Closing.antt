@@ -39,7 +39,7 @@ use Rattle.stream.specs.Lent.{partHolding, flat, countsOf}
 use Rattle.stream.proofs.Lent.{Small, put-same, put-other, getD-counted, set-counted, part-flat, clear-flat}
 use Rattle.stream.proofs.Stream.{put-elim}
 use Rattle.endpoint.specs.State.{stateOf, recordObeys, closedState}
-use Rattle.endpoint.specs.Numbers.{Outcome}
+use Rattle.endpoint.specs.Outcome.{Outcome}
 use Rattle.endpoint.specs.Calls.{openedBy, openCall, closeCall, tickedBy, tickCall}
 use Rattle.endpoint.specs.Deliver.{leastOutput, heldAt, messaged, deliveredBy, takenIn, deliverCall}
 use Rattle.endpoint.specs.declared.Record.{Record}

@@ -52,7 +52,7 @@ use Rattle.stream.specs.Machine.{Call, ask, handed, asked, none-held, glue, rul
 use Rattle.stream.specs.Promise.{AllBytes}
 use Rattle.stream.specs.Lent.{flat, countsOf}
 use Rattle.endpoint.specs.State.{stateOf, freshState}
-use Rattle.endpoint.specs.Numbers.{Outcome}
+use Rattle.endpoint.specs.Outcome.{Outcome}
 use Rattle.endpoint.specs.Deliver.{leastOutput}
 use Rattle.endpoint.specs.Take.{notifiedOf, sentOut, notifying, reminding, takenBy}
 use Rattle.reset.specs.Datagram.{datagramCall}

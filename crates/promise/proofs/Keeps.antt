@@ -27,7 +27,7 @@ use Rattle.stream.proofs.Swap.{swap}
 use Rattle.stream.proofs.Lent.{length-counted, length-flat, flat-none, counted-none}
 use Rattle.endpoint.specs.State as states
 use Rattle.endpoint.specs.State.{stateOf, freshState, recordObeys}
-use Rattle.endpoint.specs.Numbers.{Outcome}
+use Rattle.endpoint.specs.Outcome.{Outcome}
 use Rattle.endpoint.specs.Calls.{clearedArea}
 use Rattle.endpoint.specs.Deliver.{leastOutput}
 use Rattle.endpoint.specs.declared.Record.{Record}

@@ -38,7 +38,7 @@ use Rattle.serve.proofs.Keeps.{sound-kept}
 use Rattle.stream.specs.Machine.{Whole, handed, asked}
 use Rattle.stream.specs.Promise.{Decides, Apt, Laws}
 use Rattle.endpoint.specs.State.{stateOf}
-use Rattle.endpoint.specs.Numbers.{Outcome, outcome}
+use Rattle.endpoint.specs.Outcome.{Outcome, outcome}
 use Rattle.endpoint.specs.Deliver.{leastOutput}
 use Rattle.endpoint.specs.Take.{subscriptionAt, notifiedOf, sentOut, notifying, reminding, takenBy}
 use Rattle.endpoint.proofs.States.{live-low}

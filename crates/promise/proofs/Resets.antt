@@ -17,7 +17,8 @@ use Rattle.device.specs.State.{freshOf}
 use Rattle.device.specs.declared.Device.{Device}
 use Rattle.stream.specs.Machine.{Call, ask, Held, none-held, only, whole, step}
 use Rattle.endpoint.specs.State.{freshState, recordObeys}
-use Rattle.endpoint.specs.Numbers.{badRecord, badArea, Outcome, outcome, refused}
+use Rattle.numbers.specs.Refusal.{badRecord, badArea}
+use Rattle.endpoint.specs.Outcome.{Outcome, outcome, refused}
 use Rattle.reset.specs.Datagram.{restarted, datagramCall}
 use Rattle.endpoint.specs.declared.Record.{Record}
 use Rattle.promise.specs.Rulebook.{Ask, datagram, rule, open?, admit, resetBy, callOf}

@@ -50,7 +50,8 @@ use Rattle.device.proofs.Closures.{closure-frees}
 use Rattle.device.proofs.Commands.{lock-other}
 use Rattle.stream.specs.Machine.{Call, deliver, ask, asked}
 use Rattle.endpoint.specs.State.{recordObeys, closedState}
-use Rattle.endpoint.specs.Numbers.{clockBack, Outcome, refused}
+use Rattle.numbers.specs.Refusal.{clockBack}
+use Rattle.endpoint.specs.Outcome.{Outcome, refused}
 use Rattle.endpoint.specs.Calls.{openedBy, openCall, closeCall, tickedBy, tickCall}
 use Rattle.endpoint.specs.Deliver.{leastOutput, heldAt, messaged, deliveredBy, takenIn, deliverCall}
 use Rattle.endpoint.specs.Take.{subscriptionAt, notifiedOf, sentOut, notifying, reminding, takenBy, takeCall}

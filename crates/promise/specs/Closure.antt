@@ -10,7 +10,7 @@ use Rattle.octets.specs.Zeros.{zeros}
 use Rattle.area.specs.Area.{partBytes, partAt}
 use Rattle.connection.specs.State.{closed, opened, liveAt}
 use Rattle.device.specs.Closure.{locksOf, subscriptionsOf, noLocks, noEntries, Gone, Stays}
-use Rattle.endpoint.specs.Numbers.{Outcome}
+use Rattle.endpoint.specs.Outcome.{Outcome}
 use Rattle.endpoint.specs.Calls.{openCall, closeCall, tickCall}
 use Rattle.endpoint.specs.Deliver.{heldAt, deliverCall}
 use Rattle.endpoint.specs.declared.Record.{Record}

@@ -13,7 +13,7 @@ use Rattle.device.specs.State.{freshOf, openOf}
 use Rattle.device.specs.Time.{stepOf}
 use Rattle.device.specs.declared.Device.{Device}
 use Rattle.stream.specs.Machine.{handed, asked}
-use Rattle.endpoint.specs.Numbers.{clockBack}
+use Rattle.numbers.specs.Refusal.{clockBack}
 use Rattle.endpoint.specs.Deliver.{leastOutput}
 use Rattle.promise.specs.Rulebook.{ticking, taking, Asked, Given, rule}
 

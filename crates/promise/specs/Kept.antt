@@ -11,7 +11,7 @@ use Rattle.area.specs.Area.{areaBytes, areaSound}
 use Rattle.stream.specs.Machine.{Call}
 use Rattle.stream.specs.Promise.{Bytes}
 use Rattle.endpoint.specs.State.{freshState, recordObeys}
-use Rattle.endpoint.specs.Numbers.{Outcome}
+use Rattle.endpoint.specs.Outcome.{Outcome}
 use Rattle.endpoint.specs.Calls.{clearedArea}
 use Rattle.endpoint.specs.declared.Record.{Record}
 use Rattle.promise.specs.Rulebook.{Ask, callOf}

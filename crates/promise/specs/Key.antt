@@ -29,7 +29,7 @@ use Rattle.stream.specs.Machine.{Call, deliver, ask, handed, asked, Held, glue}
 use Rattle.stream.specs.Promise.{AllBytes}
 use Rattle.stream.specs.Lent.{flat, countsOf}
 use Rattle.endpoint.specs.State.{stateOf}
-use Rattle.endpoint.specs.Numbers.{Outcome}
+use Rattle.endpoint.specs.Outcome.{Outcome}
 use Rattle.endpoint.specs.declared.Record.{Record}
 use Rattle.promise.specs.Rulebook.{Ask, opening, closing, ticking, taking, datagram, Asked, rule, shut, callOf}
 use Rattle.promise.specs.Stream.{runCalls, machine, GoodState}

@@ -27,7 +27,8 @@ use Rattle.device.specs.declared.Device.{Device}
 use Rattle.stream.specs.Machine.{Call, ask, handed, asked, Held, none-held, step, glue}
 use Rattle.stream.specs.Promise.{AllBytes}
 use Rattle.endpoint.specs.State.{freshState, recordObeys}
-use Rattle.endpoint.specs.Numbers.{badRecord, badArea, outcome, refused}
+use Rattle.numbers.specs.Refusal.{badRecord, badArea}
+use Rattle.endpoint.specs.Outcome.{outcome, refused}
 use Rattle.reset.specs.Datagram.{restarted, datagramCall}
 use Rattle.endpoint.specs.declared.Record.{Record}
 use Rattle.promise.specs.Rulebook.{Ask, datagram, Asked, rule, open?, admit, shut}

@@ -24,7 +24,8 @@ use Rattle.serve.specs.Sound.{Ruled, soundOf}
 use Rattle.stream.specs.Machine.{Call, deliver, ask, Whole, handed, asked, Answer, more, denied, gave, Held}
 use Rattle.stream.specs.Lent.{flat, countsOf}
 use Rattle.endpoint.specs.State.{stateOf}
-use Rattle.endpoint.specs.Numbers.{noConnection, noRoom, tableFull, clockBack, overrun, Outcome, outcome}
+use Rattle.numbers.specs.Refusal.{noConnection, noRoom, tableFull, clockBack, overrun}
+use Rattle.endpoint.specs.Outcome.{Outcome, outcome}
 use Rattle.endpoint.specs.Calls.{openCall, closeCall, tickCall}
 use Rattle.endpoint.specs.Deliver.{leastOutput, deliverCall}
 use Rattle.endpoint.specs.Take.{takenBy, takeCall}

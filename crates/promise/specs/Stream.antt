@@ -17,7 +17,7 @@ use Rattle.stream.specs.Promise.{Bytes, AllBytes, Good, Streamed}
 use Rattle.stream.specs.Lent.{flat, countsOf}
 use Rattle.stream.specs.Cut.{drips, comesTo}
 use Rattle.endpoint.specs.State.{stateOf, freshState}
-use Rattle.endpoint.specs.Numbers.{Outcome}
+use Rattle.endpoint.specs.Outcome.{Outcome}
 use Rattle.endpoint.specs.Deliver.{leastOutput}
 use Rattle.endpoint.specs.declared.Record.{Record}
 use Rattle.promise.specs.Rulebook.{Ask, Given, rule, open?, admit, shut, Fine, callOf, outcomeOf}

@@ -21,7 +21,8 @@ use Rattle.device.specs.Closure.{Gone, Stays}
 use Rattle.device.specs.declared.Device.{Device}
 use Rattle.stream.specs.Machine.{Call, deliver, ask}
 use Rattle.endpoint.specs.State.{recordObeys}
-use Rattle.endpoint.specs.Numbers.{clockBack, refused}
+use Rattle.numbers.specs.Refusal.{clockBack}
+use Rattle.endpoint.specs.Outcome.{refused}
 use Rattle.endpoint.specs.Calls.{tickCall}
 use Rattle.endpoint.specs.Deliver.{heldAt, deliverCall}
 use Rattle.endpoint.specs.declared.Record.{Record}

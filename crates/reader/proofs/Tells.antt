@@ -11,7 +11,8 @@ use Rattle.heartbeat.specs.Beat.{secondsForm, formOf, valueOf}
 use Rattle.heartbeat.specs.declared.Heartbeat.{Heartbeat}
 use Rattle.heartbeat.specs.declared.Heartbeat.the-variants.{InSeconds, InMilliseconds}
 use Rattle.fields.specs.declared.Method.{Method}
-use Rattle.reader.specs.Numbers.{fault, short, heartbeatNumbers, messageNumbers, readingNumbers, commandNumbers, notificationNumbers, responseNumbers, entryNumbers}
+use Rattle.numbers.specs.Refusal.{fault, short}
+use Rattle.reader.specs.Numbers.{heartbeatNumbers, messageNumbers, readingNumbers, commandNumbers, notificationNumbers, responseNumbers, entryNumbers}
 use Rattle.reader.specs.Tell.{NumbersTell}
 use Rattle.reader.specs.declared.Message.{Message}
 use Rattle.reader.specs.declared.Message.the-variants.{Command, CommandWantingReply, Notification, Response, KeepAlive}

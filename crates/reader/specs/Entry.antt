@@ -13,7 +13,8 @@ use Rattle.frame.specs.declared.Decision.{Decision}
 use Rattle.frame.specs.declared.Decision.the-variants.{Undecided, Faulty, Sound}
 use Rattle.fields.specs.Place.{entriesFrom, entryBytes, parametersOf}
 use Rattle.fields.specs.Fields.{commandOf, notificationOf, responseOf}
-use Rattle.reader.specs.Numbers.{fault, short, noEntry, commandNumbers, notificationNumbers, responseNumbers}
+use Rattle.numbers.specs.Refusal.{notRefused, fault, short, noEntry}
+use Rattle.reader.specs.Numbers.{commandNumbers, notificationNumbers, responseNumbers}
 use Rattle.reader.specs.Read.{dataOf}
 
 -- "12 NoEntry: entry number not below the count, or a keep-alive"
@@ -23,8 +24,8 @@ hasEntry kind count i = cond (eqb kind keepAlive) false (ltb i count)
 -- the fields of the entry e, by its type
 unfoldable pub fieldsOf : ℕ → List ℕ → List ℕ
 fieldsOf kind e =
-    cond (ltb kind notification) (0 ∷ commandNumbers (commandOf e))
-    (cond (eqb kind notification) (0 ∷ notificationNumbers (notificationOf e)) (0 ∷ responseNumbers (responseOf e)))
+    cond (ltb kind notification) (notRefused ∷ commandNumbers (commandOf e))
+    (cond (eqb kind notification) (notRefused ∷ notificationNumbers (notificationOf e)) (notRefused ∷ responseNumbers (responseOf e)))
 
 -- entry i's bytes in the sound message of n bytes
 abbrev pub entryAt : List ℕ → ℕ → ℕ → List ℕ

@@ -1,6 +1,7 @@
--- Document 01's number and values for each case of the reader's answers. 0 stands for an answer that is no refusal.
+-- Document 01's number and values for each case of the reader's answers.
 use Prim.Native.Nat.{ℕ}
 use mathlib.Core.List.{List, [], _∷_}
+use Rattle.numbers.specs.Refusal.{notRefused, fault, short, noEntry}
 use Rattle.frame.specs.Limits.{commandWantingReply, notification, response, keepAlive}
 use Rattle.heartbeat.specs.Beat.{formOf, valueOf}
 use Rattle.heartbeat.specs.declared.Heartbeat.{Heartbeat}
@@ -13,16 +14,6 @@ use Rattle.reader.specs.declared.Reading.{Reading}
 use Rattle.reader.specs.declared.Reading.the-variants as reading
 use Rattle.reader.specs.declared.Entry.{Entry}
 use Rattle.reader.specs.declared.Entry.the-variants as entry
-
--- the refusals of 'What calls refuse' that the reader gives
-abbrev pub fault : ℕ
-fault = 8
-
-abbrev pub short : ℕ
-short = 9
-
-abbrev pub noEntry : ℕ
-noEntry = 12
 
 -- a heartbeat: its form and its value in that form's unit
 unfoldable pub heartbeatNumbers : Heartbeat → List ℕ
@@ -38,7 +29,7 @@ messageNumbers (KeepAlive h) = keepAlive ∷ 1 ∷ heartbeatNumbers h
 
 -- a reading: the message's length and what it is; or 8 and the fault; or 9
 unfoldable pub readingNumbers : Reading → List ℕ
-readingNumbers (reading.Read m n) = 0 ∷ n ∷ messageNumbers m
+readingNumbers (reading.Read m n) = notRefused ∷ n ∷ messageNumbers m
 readingNumbers (reading.Fault f) = fault ∷ f ∷ []
 readingNumbers reading.Short = short ∷ []
 
@@ -55,9 +46,9 @@ responseNumbers r = response ∷ r .handle ∷ r .status ∷ r .count ∷ []
 
 -- an entry: its fields; or 8 and the fault; or 9; or 12
 unfoldable pub entryNumbers : Entry → List ℕ
-entryNumbers (entry.Command c) = 0 ∷ commandNumbers c
-entryNumbers (entry.Notification n) = 0 ∷ notificationNumbers n
-entryNumbers (entry.Response r) = 0 ∷ responseNumbers r
+entryNumbers (entry.Command c) = notRefused ∷ commandNumbers c
+entryNumbers (entry.Notification n) = notRefused ∷ notificationNumbers n
+entryNumbers (entry.Response r) = notRefused ∷ responseNumbers r
 entryNumbers (entry.Fault f) = fault ∷ f ∷ []
 entryNumbers entry.Short = short ∷ []
 entryNumbers entry.NoEntry = noEntry ∷ []

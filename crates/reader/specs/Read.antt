@@ -10,7 +10,8 @@ use Rattle.frame.specs.Decide.{decide}
 use Rattle.frame.specs.declared.Decision.{Decision}
 use Rattle.frame.specs.declared.Decision.the-variants.{Undecided, Faulty, Sound}
 use Rattle.fields.specs.Fields.{heartbeatOf}
-use Rattle.reader.specs.Numbers.{fault, short, heartbeatNumbers}
+use Rattle.numbers.specs.Refusal.{notRefused, fault, short}
+use Rattle.reader.specs.Numbers.{heartbeatNumbers}
 
 -- the data of a message of n bytes
 abbrev pub dataOf : List ℕ → ℕ → List ℕ
@@ -27,7 +28,7 @@ messageOf s n =
 unfoldable pub readBy : Decision → List ℕ → List ℕ
 readBy Undecided s = short ∷ []
 readBy (Faulty f n) s = fault ∷ f ∷ []
-readBy (Sound n) s = 0 ∷ n ∷ messageOf s n
+readBy (Sound n) s = notRefused ∷ n ∷ messageOf s n
 
 unfoldable pub readOf : List ℕ → List ℕ
 readOf s = readBy (decide s) s

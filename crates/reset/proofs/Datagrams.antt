@@ -14,7 +14,8 @@ use Rattle.octets.proofs.Scans.{length-zeros}
 use Rattle.mechanism.specs.Datagram.{resets}
 use Rattle.area.specs.Area.{areaBytes, areaSound}
 use Rattle.endpoint.specs.State.{freshState, recordObeys}
-use Rattle.endpoint.specs.Numbers.{badRecord, badArea, outcome, refused}
+use Rattle.numbers.specs.Refusal.{badRecord, badArea}
+use Rattle.endpoint.specs.Outcome.{outcome, refused}
 use Rattle.endpoint.specs.declared.Record.{Record}
 use Rattle.area.proofs.Lies.{area-long}
 use Rattle.reset.specs.Datagram.{restarted, datagramCall}

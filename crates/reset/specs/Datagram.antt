@@ -5,19 +5,22 @@ use mathlib.Core.List.{List, [], _∷_}
 use Rattle.octets.specs.Zeros.{zeros}
 use Rattle.mechanism.specs.Datagram.{resets}
 use Rattle.area.specs.Area.{areaBytes, areaSound}
+use Rattle.answers.specs.Numbers.{resettingNumbers}
+use Rattle.answers.specs.declared.Resetting.the-variants as resetting
 use Rattle.endpoint.specs.State.{freshState, recordObeys}
-use Rattle.endpoint.specs.Numbers.{badRecord, badArea, Outcome, outcome, refused}
+use Rattle.numbers.specs.Refusal.{badRecord, badArea}
+use Rattle.endpoint.specs.Outcome.{Outcome, outcome, refused}
 use Rattle.endpoint.specs.declared.Record.{Record}
 
 -- "After the reset the record is a fresh one at the last reading, the area zero and the mechanism disarmed"
 unfoldable pub restarted : Record → Outcome
-restarted r = outcome (0 ∷ 1 ∷ []) (freshState (r .device .reading)) (zeros areaBytes) []
+restarted r = outcome (resettingNumbers resetting.Done) (freshState (r .device .reading)) (zeros areaBytes) []
 
 -- "resets if the mechanism is armed and the key matches; any other changes nothing"; "the datagram call gives 1 and 2 alone"
 unfoldable pub datagramCall : Record → List ℕ → List ℕ → Outcome
 datagramCall r area datagram =
     cond (recordObeys r)
     (cond (areaSound (r .held) area)
-    (cond (resets (r .device .mechanism) datagram) (restarted r) (outcome (0 ∷ 0 ∷ []) r area []))
+    (cond (resets (r .device .mechanism) datagram) (restarted r) (outcome (resettingNumbers resetting.Nothing) r area []))
     (refused badArea r area []))
     (refused badRecord r area [])

@@ -1,9 +1,7 @@
--- The numbers of an answer tell it from every other, and two results that the promise allows are equal.
-use mathlib.Core.Path.{_≡_}
+-- One result for a datagram's outcome.
+use Rattle.answers.specs.Numbers.{resettingNumbers}
+use Rattle.answers.specs.declared.Resetting.{Resetting}
 use Rattle.endpoint.specs.Tell.{SameResult}
-use Rattle.reset.specs.Numbers.{resettingNumbers}
-use Rattle.reset.specs.declared.Resetting.{Resetting}
 
 pub record ResettingsTell : Type 0 where
-  pub resettings : (a b : Resetting) → resettingNumbers a ≡ resettingNumbers b → a ≡ b
   pub one : SameResult Resetting resettingNumbers

@@ -1,18 +1,12 @@
 // A datagram that came on the reset mechanism's port: the right one starts the device anew.
+use answers::Resetting;
 use endpoint::Record;
 ghost use mathlib.Core.Path.{_≡_};
 ghost use mathlib.Core.List.{[]};
-ghost use Rattle.endpoint.specs.Numbers.{outcome};
-ghost use Rattle.reset.specs.Numbers.{resettingNumbers};
+ghost use Rattle.endpoint.specs.Outcome.{outcome};
+ghost use Rattle.answers.specs.Numbers.{resettingNumbers};
 ghost use Rattle.reset.specs.Datagram.{datagramCall};
 ghost use Rattle.reset.specs.Tell.{ResettingsTell};
-
-pub enum Resetting {
-    Nothing,
-    Done,
-    BadRecord,
-    BadArea,
-}
 
 pub struct Reset {
     pub state: Record,
@@ -53,7 +47,7 @@ pub fn datagram(state: Record, area: &mut [u8], datagram: &[u8]) -> Reset
     }
 }
 
-// The numbers of an answer tell it from every other.
+// Two results of a datagram that its outcome allows are equal.
 pub fn resettings_tell()
     ensures { λ _. ⌜ ResettingsTell ⌝ }
 {}

@@ -19,7 +19,8 @@ use Rattle.endpoint.specs.declared.Record.{Record}
 use Rattle.promise.specs.Rulebook.{Ask, opening, closing, ticking, taking, datagram, callOf}
 use Rattle.promise.specs.Stream.{StreamTheorem, GoodState, machine, gives, runCalls}
 use Rattle.promise.proofs.Keeps.{stream-theorem}
-use Rattle.script.specs.Script.{numbersOf, stage, outputAfter, sentBy, callBy, firstSize, callIn, behind, callsFrom, callsIn, lastOutput, lastAnswer, endOf, scriptOf}
+use Rattle.answers.specs.Numbers.{numbersOf}
+use Rattle.script.specs.Script.{stage, outputAfter, sentBy, callBy, firstSize, callIn, behind, callsFrom, callsIn, lastOutput, lastAnswer, endOf, scriptOf}
 use Rattle.script.specs.Chain.{ScriptsRun}
 use Rattle.script.proofs.Stages.{is-sent, is-datagram, is-deliver}
 

@@ -10,7 +10,7 @@ use lib.Dec.{eqb, ltb, leb}
 use lib.ListN.{length, getD, take, drop, length-drop}
 use Rattle.octets.specs.Numbers.{be32At}
 use Rattle.stream.specs.Machine.{Call, deliver, ask}
-use Rattle.endpoint.specs.Numbers.{Outcome, outcome}
+use Rattle.endpoint.specs.Outcome.{Outcome, outcome}
 use Rattle.endpoint.specs.Calls.{openCall, closeCall, tickCall}
 use Rattle.endpoint.specs.Deliver.{deliverCall}
 use Rattle.endpoint.specs.Take.{takeCall}
@@ -18,8 +18,9 @@ use Rattle.reset.specs.Datagram.{datagramCall}
 use Rattle.endpoint.specs.declared.Record.{Record}
 use Rattle.promise.specs.Rulebook.{Ask, opening, closing, ticking, taking, datagram, callOf}
 use Rattle.promise.specs.Stream.{runCalls}
-use Rattle.script.specs.Script.{numbersOf, Stage, stage, outputAfter, stageOf, sentBy, callBy, callHead, firstSize, callIn, behind, callsFrom, callsIn, lastOutput, lastAnswer, endOf, scriptOf}
-use Rattle.script.specs.declared.Numbers.{Numbers}
+use Rattle.answers.specs.Numbers.{numbersWith, numbersOf}
+use Rattle.script.specs.Script.{Stage, stage, outputAfter, stageOf, sentBy, callBy, callHead, firstSize, callIn, behind, callsFrom, callsIn, lastOutput, lastAnswer, endOf, scriptOf}
+use Rattle.answers.specs.declared.Numbers.{Numbers}
 
 -- ---- each kind of call, from the outcome that its contract gives
 
@@ -129,10 +130,9 @@ pub record Playing (r₀ : Record) (area₀ script output₀ : List ℕ) (area o
   pub long : length area ≡ length area₀
   pub wide : length output ≡ length output₀
 
-pub playing-none : (r : Record) (area script output : List ℕ) (a : Numbers) → a ≡ numbersOf (0 ∷ 0 ∷ 0 ∷ 0 ∷ [])
-    → Playing r area script output area output r a script
+pub playing-none : (r : Record) (area script output : List ℕ) → Playing r area script output area output r (numbersWith 0 0 0 0) script
 unfolding scriptOf callsIn endFrom numbersOf
-playing-none r area script output a e = record { left = length script; enough = omega arith; rest = rw e refl; long = refl; wide = refl }
+playing-none r area script output = record { left = length script; enough = omega arith; rest = refl; long = refl; wide = refl }
 
 module _ (r₀ : Record) (area₀ script output₀ area output : List ℕ) (r : Record) (a : Numbers) (t : List ℕ)
     (w : Playing r₀ area₀ script output₀ area output r a t)

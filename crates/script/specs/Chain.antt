@@ -12,7 +12,8 @@ use Rattle.endpoint.specs.State.{stateOf}
 use Rattle.endpoint.specs.declared.Record.{Record}
 use Rattle.promise.specs.Rulebook.{datagram}
 use Rattle.promise.specs.Stream.{GoodState, machine, gives}
-use Rattle.script.specs.Script.{numbersOf, stage, callBy, callIn, behind, callsIn, lastOutput, lastAnswer, scriptOf}
+use Rattle.answers.specs.Numbers.{numbersOf}
+use Rattle.script.specs.Script.{stage, callBy, callIn, behind, callsIn, lastOutput, lastAnswer, scriptOf}
 
 pub record ScriptsRun : Type 0 where
   -- what the code leaves of a script, from a state that keeps the rules: the device of the rules over whole messages, the undecided

@@ -6,15 +6,11 @@ use lib.ListN.{length, getD, take, drop}
 use lib.Dec.{eqb, ltb, leb}
 use Rattle.octets.specs.Numbers.{be32At}
 use Rattle.stream.specs.Machine.{Call, deliver, ask}
-use Rattle.endpoint.specs.Numbers.{Outcome}
+use Rattle.endpoint.specs.Outcome.{Outcome}
 use Rattle.endpoint.specs.declared.Record.{Record}
 use Rattle.promise.specs.Rulebook.{Ask, opening, closing, ticking, taking, datagram, callOf}
 use Rattle.promise.specs.Stream.{runCalls}
-use Rattle.script.specs.declared.Numbers.{Numbers}
-
--- an answer's numbers, zeros behind them
-unfoldable pub numbersOf : List ℕ → Numbers
-numbersOf a = record { number = getD a 0 0; first = getD a 1 0; second = getD a 2 0; third = getD a 3 0 }
+use Rattle.answers.specs.declared.Numbers.{Numbers}
 
 -- how a script stands: the record, the area, the output, and the last call's answer
 pub record Stage : Type 0 where

@@ -1,21 +1,13 @@
 // A script: calls written in bytes, made one after another on one record, one area and one output.
-use endpoint::Closing;
-use endpoint::Delivery;
-use endpoint::Opening;
+use answers::Numbers;
 use endpoint::Record;
-use endpoint::Taking;
-use endpoint::Ticking;
-use reset::Resetting;
 ghost use mathlib.Core.Path.{_≡_};
 ghost use Prim.Native.Nat.{_≤_};
-ghost use mathlib.Core.List.{[], _∷_};
 ghost use lib.ListN.{length};
-ghost use Rattle.endpoint.specs.Numbers.{openingNumbers, closingNumbers, tickingNumbers, deliveryNumbers, takingNumbers};
-ghost use Rattle.reset.specs.Numbers.{resettingNumbers};
 ghost use Rattle.stream.specs.Machine.{deliver, ask};
 ghost use Rattle.promise.specs.Rulebook.{opening, closing, ticking, taking, datagram};
 ghost use Rattle.script.specs.Chain.{ScriptsRun};
-ghost use Rattle.script.specs.Script.{numbersOf, stage, stageOf, sentBy, callBy, callIn, firstSize, scriptOf};
+ghost use Rattle.script.specs.Script.{stage, stageOf, sentBy, callBy, callIn, firstSize, scriptOf};
 
 // A call starts with six bytes: its kind, a connection's number, and a number of 32 bits.
 pub const HEAD: usize = 6;
@@ -31,175 +23,82 @@ pub const TAKE: u8 = 3;
 // On the reset mechanism's port; any kind above delivers to a connection.
 pub const DATAGRAM: u8 = 4;
 
-// The paper's numbers of an answer, in their order, and zeros behind them.
-pub struct Numbers {
-    pub number: usize,
-    pub first: usize,
-    pub second: usize,
-    pub third: usize,
-}
-
 pub struct Played {
     pub state: Record,
     // of the last call
     pub answer: Numbers,
 }
 
-fn refusal(number: usize) -> Numbers
-    ensures { λ r. ⌜ r ≡ numbersOf (number ∷ []) ⌝ }
-{
-    Numbers {
-        number,
-        first: 0,
-        second: 0,
-        third: 0,
-    }
-}
-
-fn done(first: usize, second: usize, third: usize) -> Numbers
-    ensures { λ r. ⌜ r ≡ numbersOf (0 ∷ first ∷ second ∷ third ∷ []) ⌝ }
-{
-    Numbers {
-        number: 0,
-        first,
-        second,
-        third,
-    }
-}
-
-fn opening_numbers(answer: Opening) -> Numbers
-    ensures { λ r. ⌜ r ≡ numbersOf (openingNumbers answer) ⌝ }
-{
-    match answer {
-        Opening::Number(n) => done(n as usize, 0, 0),
-        Opening::BadRecord => refusal(1),
-        Opening::TableFull => refusal(5),
-    }
-}
-
-fn closing_numbers(answer: Closing) -> Numbers
-    ensures { λ r. ⌜ r ≡ numbersOf (closingNumbers answer) ⌝ }
-{
-    match answer {
-        Closing::Done => done(0, 0, 0),
-        Closing::BadRecord => refusal(1),
-        Closing::BadArea => refusal(2),
-        Closing::NoConnection => refusal(3),
-    }
-}
-
-fn ticking_numbers(answer: Ticking) -> Numbers
-    ensures { λ r. ⌜ r ≡ numbersOf (tickingNumbers answer) ⌝ }
-{
-    match answer {
-        Ticking::Closed(mask) => done(mask as usize, 0, 0),
-        Ticking::BadRecord => refusal(1),
-        Ticking::BadArea => refusal(2),
-        Ticking::ClockBack => refusal(6),
-        Ticking::Overrun => refusal(7),
-    }
-}
-
-fn delivery_numbers(answer: Delivery) -> Numbers
-    ensures { λ r. ⌜ r ≡ numbersOf (deliveryNumbers answer) ⌝ }
-{
-    match answer {
-        Delivery::More(taken) => done(1, taken, 0),
-        Delivery::Message(taken, length) => done(2, taken, length),
-        Delivery::Closed(taken, fault) => done(3, taken, fault as usize),
-        Delivery::BadRecord => refusal(1),
-        Delivery::BadArea => refusal(2),
-        Delivery::NoConnection => refusal(3),
-        Delivery::NoRoom => refusal(4),
-    }
-}
-
-fn taking_numbers(answer: Taking) -> Numbers
-    ensures { λ r. ⌜ r ≡ numbersOf (takingNumbers answer) ⌝ }
-{
-    match answer {
-        Taking::Nothing => done(0, 0, 0),
-        Taking::Notification(n, length) => done(1, n as usize, length),
-        Taking::KeepAlive(n, length) => done(2, n as usize, length),
-        Taking::BadRecord => refusal(1),
-        Taking::NoRoom => refusal(4),
-    }
-}
-
-fn resetting_numbers(answer: Resetting) -> Numbers
-    ensures { λ r. ⌜ r ≡ numbersOf (resettingNumbers answer) ⌝ }
-{
-    match answer {
-        Resetting::Nothing => done(0, 0, 0),
-        Resetting::Done => done(1, 0, 0),
-        Resetting::BadRecord => refusal(1),
-        Resetting::BadArea => refusal(2),
-    }
-}
-
 fn open(state: Record, area: &mut [u8], output: &mut [u8]) -> Played
-    ensures { λ r. ⌜ stage (r .state) (now (area .exit)) (now (output .exit)) (r .answer) ≡ stageOf (ask opening) state (now (area .entry)) (now (output .entry)) ⌝ }
+    ensures { λ r. ⌜ stage (r .state) (now (area .exit)) (now (output .exit)) (r .answer)
+        ≡ stageOf (ask opening) state (now (area .entry)) (now (output .entry)) ⌝ }
 {
     let opened = state.open();
     let told = opened.answer;
-    let answer = opening_numbers(told);
+    let answer = told.numbers();
     let state = opened.state;
     Played { state, answer }
 }
 
 fn close(state: Record, area: &mut [u8], n: u8, output: &mut [u8]) -> Played
-    ensures { λ r. ⌜ stage (r .state) (now (area .exit)) (now (output .exit)) (r .answer) ≡ stageOf (ask (closing n)) state (now (area .entry)) (now (output .entry)) ⌝ }
+    ensures { λ r. ⌜ stage (r .state) (now (area .exit)) (now (output .exit)) (r .answer)
+        ≡ stageOf (ask (closing n)) state (now (area .entry)) (now (output .entry)) ⌝ }
 {
     let closed = state.close(area, n);
     let told = closed.answer;
-    let answer = closing_numbers(told);
+    let answer = told.numbers();
     let state = closed.state;
     Played { state, answer }
 }
 
 fn tick(state: Record, area: &mut [u8], reading: u32, output: &mut [u8]) -> Played
-    ensures { λ r. ⌜ stage (r .state) (now (area .exit)) (now (output .exit)) (r .answer) ≡ stageOf (ask (ticking reading)) state (now (area .entry)) (now (output .entry)) ⌝ }
+    ensures { λ r. ⌜ stage (r .state) (now (area .exit)) (now (output .exit)) (r .answer)
+        ≡ stageOf (ask (ticking reading)) state (now (area .entry)) (now (output .entry)) ⌝ }
 {
     let ticked = state.tick(area, reading);
     let told = ticked.answer;
-    let answer = ticking_numbers(told);
+    let answer = told.numbers();
     let state = ticked.state;
     Played { state, answer }
 }
 
 fn take(state: Record, area: &mut [u8], output: &mut [u8]) -> Played
-    ensures { λ r. ⌜ stage (r .state) (now (area .exit)) (now (output .exit)) (r .answer) ≡ stageOf (ask (taking (now (output .entry)))) state (now (area .entry)) (now (output .entry)) ⌝ }
+    ensures { λ r. ⌜ stage (r .state) (now (area .exit)) (now (output .exit)) (r .answer)
+        ≡ stageOf (ask (taking (now (output .entry)))) state (now (area .entry)) (now (output .entry)) ⌝ }
 {
     let taken = state.take(output);
     let told = taken.answer;
-    let answer = taking_numbers(told);
+    let answer = told.numbers();
     let state = taken.state;
     Played { state, answer }
 }
 
 fn datagram(state: Record, area: &mut [u8], piece: &[u8], output: &mut [u8]) -> Played
-    ensures { λ r. ⌜ stage (r .state) (now (area .exit)) (now (output .exit)) (r .answer) ≡ stageOf (ask (datagram (now (piece .entry)))) state (now (area .entry)) (now (output .entry)) ⌝ }
+    ensures { λ r. ⌜ stage (r .state) (now (area .exit)) (now (output .exit)) (r .answer)
+        ≡ stageOf (ask (datagram (now (piece .entry)))) state (now (area .entry)) (now (output .entry)) ⌝ }
 {
     let heeded = reset::datagram(state, area, piece);
     let told = heeded.answer;
-    let answer = resetting_numbers(told);
+    let answer = told.numbers();
     let state = heeded.state;
     Played { state, answer }
 }
 
 fn deliver(state: Record, area: &mut [u8], n: u8, piece: &[u8], output: &mut [u8]) -> Played
-    ensures { λ r. ⌜ stage (r .state) (now (area .exit)) (now (output .exit)) (r .answer) ≡ stageOf (deliver n (now (piece .entry)) (now (output .entry))) state (now (area .entry)) (now (output .entry)) ⌝ }
+    ensures { λ r. ⌜ stage (r .state) (now (area .exit)) (now (output .exit)) (r .answer)
+        ≡ stageOf (deliver n (now (piece .entry)) (now (output .entry))) state (now (area .entry)) (now (output .entry)) ⌝ }
 {
     let delivered = state.deliver(area, n, piece, output);
     let told = delivered.answer;
-    let answer = delivery_numbers(told);
+    let answer = told.numbers();
     let state = delivered.state;
     Played { state, answer }
 }
 
 // The kinds that have a piece.
 fn send(state: Record, area: &mut [u8], kind: u8, n: u8, piece: &[u8], output: &mut [u8]) -> Played
-    ensures { λ r. ⌜ stage (r .state) (now (area .exit)) (now (output .exit)) (r .answer) ≡ stageOf (sentBy kind n (now (piece .entry)) (now (output .entry))) state (now (area .entry)) (now (output .entry)) ⌝ }
+    ensures { λ r. ⌜ stage (r .state) (now (area .exit)) (now (output .exit)) (r .answer)
+        ≡ stageOf (sentBy kind n (now (piece .entry)) (now (output .entry))) state (now (area .entry)) (now (output .entry)) ⌝ }
 {
     if kind == DATAGRAM {
         return datagram(state, area, piece, output);
@@ -216,7 +115,8 @@ fn call(
     piece: &[u8],
     output: &mut [u8],
 ) -> Played
-    ensures { λ r. ⌜ stage (r .state) (now (area .exit)) (now (output .exit)) (r .answer) ≡ stageOf (callBy kind n value (now (piece .entry)) (now (output .entry))) state (now (area .entry)) (now (output .entry)) ⌝ }
+    ensures { λ r. ⌜ stage (r .state) (now (area .exit)) (now (output .exit)) (r .answer)
+        ≡ stageOf (callBy kind n value (now (piece .entry)) (now (output .entry))) state (now (area .entry)) (now (output .entry)) ⌝ }
 {
     if kind == OPEN {
         return open(state, area, output);
@@ -251,7 +151,8 @@ fn first_size(script: &[u8]) -> usize
 
 fn first(state: Record, area: &mut [u8], script: &[u8], output: &mut [u8]) -> Played
     requires { ⌜ 6 ≤ length (now script) ⌝ }
-    ensures { λ r. ⌜ stage (r .state) (now (area .exit)) (now (output .exit)) (r .answer) ≡ stageOf (callIn (now (script .entry)) (now (output .entry))) state (now (area .entry)) (now (output .entry)) ⌝ }
+    ensures { λ r. ⌜ stage (r .state) (now (area .exit)) (now (output .exit)) (r .answer)
+        ≡ stageOf (callIn (now (script .entry)) (now (output .entry))) state (now (area .entry)) (now (output .entry)) ⌝ }
 {
     let end = first_size(script);
     let value = octets::be32(script, 2);
@@ -268,9 +169,15 @@ fn first(state: Record, area: &mut [u8], script: &[u8], output: &mut [u8]) -> Pl
 
 // Makes a script's calls by the code of the endpoint, each state passed on as handed back.
 pub fn run(state: Record, area: &mut [u8], script: &[u8], output: &mut [u8]) -> Played
-    ensures { λ r. ⌜ stage (r .state) (now (area .exit)) (now (output .exit)) (r .answer) ≡ scriptOf state (now (area .entry)) (now (script .entry)) (now (output .entry)) ⌝ }
+    ensures { λ r. ⌜ stage (r .state) (now (area .exit)) (now (output .exit)) (r .answer)
+        ≡ scriptOf state (now (area .entry)) (now (script .entry)) (now (output .entry)) ⌝ }
 {
-    let answer = done(0, 0, 0);
+    let answer = Numbers {
+        number: numbers::NOT_REFUSED,
+        first: 0,
+        second: 0,
+        third: 0,
+    };
     let mut last = Played { state, answer };
     let mut t = script;
     while HEAD <= t.len() {

@@ -16,7 +16,8 @@ use Rattle.octets.specs.Numbers.{be16At, be32At, bytes16, bytes32, Octets}
 use Rattle.octets.proofs.Digits.{be16-small, bytes16-be16, bytes32-be32, octets-take, octets-drop}
 use Rattle.heartbeat.specs.Beat.{secondsForm, millisecondsForm, formOf, valueOf}
 use Rattle.heartbeat.specs.declared.Heartbeat.the-variants.{InSeconds, InMilliseconds}
-use Rattle.frame.specs.Limits.{greatestSize, response, keepAlive, secondsBytes, millisecondsBytes, faultCount}
+use Rattle.numbers.specs.Fault.{faultCount}
+use Rattle.frame.specs.Limits.{greatestSize, response, keepAlive, secondsBytes, millisecondsBytes}
 use Rattle.frame.specs.Header.{pduType, messageCount, countFault}
 use Rattle.frame.specs.Entry.{entrySize, entriesFill, wellFormed}
 use Rattle.frame.specs.Decide.{keepAliveFill, decide}
@@ -29,7 +30,8 @@ use Rattle.fields.specs.Fields.{heartbeatOf}
 use Rattle.reader.specs.Numbers.{heartbeatNumbers}
 use Rattle.reader.specs.Read.{dataOf, messageOf, readBy, readOf}
 use Rattle.reader.proofs.Sounds.{keep-data}
-use Rattle.writer.specs.Numbers.{done, Writing, writtenNumbers}
+use Rattle.numbers.specs.Refusal.{notRefused}
+use Rattle.writer.specs.Numbers.{Writing, writtenNumbers}
 use Rattle.layout.specs.Message.{sizeOf, message, atFront}
 use Rattle.writer.specs.Write.{leastRoom, greatestSeconds, written, startOf, appendOf, beatFits, beatBytes, keepAliveOf}
 use Rattle.writer.specs.Round.{Made, started, appended, entriesOf, entriesIn}
@@ -222,7 +224,7 @@ pub record Run (buf : List ℕ) (kind count : ℕ) (t : List ℕ) (n : ℕ) (aft
   pub front : after ≡ atFront (message kind count t) buf
   pub holds : Holds after n kind count t
 
-start-run : (buf : List ℕ) (kind : ℕ) (e : List ℕ) (n : ℕ) → startOf buf kind e .answer ≡ done ∷ n ∷ []
+start-run : (buf : List ℕ) (kind : ℕ) (e : List ℕ) (n : ℕ) → startOf buf kind e .answer ≡ notRefused ∷ n ∷ []
     → Run buf kind 1 e n (startOf buf kind e .buffer)
 start-run buf kind e n h =
     let w = start-way buf kind e n h in
@@ -235,7 +237,7 @@ start-run buf kind e n h =
     }
 
 append-run : (buf : List ℕ) (kind c : ℕ) (t : List ℕ) (m : ℕ) (before e : List ℕ) (n : ℕ) → Run buf kind c t m before
-    → appendOf before kind e .answer ≡ done ∷ n ∷ [] → Run buf kind (c + 1) (t ++ e) n (appendOf before kind e .buffer)
+    → appendOf before kind e .answer ≡ notRefused ∷ n ∷ [] → Run buf kind (c + 1) (t ++ e) n (appendOf before kind e .buffer)
 append-run buf kind c t m before e n r h =
     let w = append-way before kind e n h in
     let k = well-kind kind e (w .well) in

@@ -24,7 +24,8 @@ use Rattle.fields.specs.Fields.{heartbeatOf}
 use Rattle.reader.specs.Numbers.{heartbeatNumbers}
 use Rattle.reader.specs.Read.{dataOf, messageOf, readBy, readOf}
 use Rattle.reader.specs.Entry.{hasEntry, entryIn, entryBy, entryOf, partIn, partBy, partOf}
-use Rattle.writer.specs.Numbers.{done, tooLong, badEntry, writerNoRoom, Writing}
+use Rattle.numbers.specs.Refusal.{notRefused, tooLong, badEntry, noRoom}
+use Rattle.writer.specs.Numbers.{Writing}
 use Rattle.layout.specs.Message.{sizeOf, message, atFront}
 use Rattle.writer.specs.Write.{leastRoom, greatestSeconds, unwritten, written, offered, startOf, appendSound, appendBy, appendOf, beatFits, beatBytes, keepAliveOf}
 use Rattle.writer.specs.Round.{Made, started, appended, entriesOf, entriesIn, ReadsAs}
@@ -54,31 +55,31 @@ pub record Wrote (o : Writing) (buf : List ℕ) (n kind count : ℕ) (body : Lis
   pub after : o .buffer ≡ atFront (message kind count body) buf
 
 written-way : (kind count : ℕ) (body buf : List ℕ) (n : ℕ) → sizeOf body ≤ greatestSize
-    → written (message kind count body) buf .answer ≡ done ∷ n ∷ [] → Wrote (written (message kind count body) buf) buf n kind count body
+    → written (message kind count body) buf .answer ≡ notRefused ∷ n ∷ [] → Wrote (written (message kind count body) buf) buf n kind count body
 unfolding written
 written-way kind count body buf n h e =
     let q : length (message kind count body) ≡ n = cc in
     record { small = h; size = sym q ∙ length-message kind count body; after = refl }
 
-offered-way : (kind count : ℕ) (body buf : List ℕ) (n : ℕ) → offered kind count body buf .answer ≡ done ∷ n ∷ []
+offered-way : (kind count : ℕ) (body buf : List ℕ) (n : ℕ) → offered kind count body buf .answer ≡ notRefused ∷ n ∷ []
     → Wrote (offered kind count body buf) buf n kind count body
 unfolding offered unwritten
 offered-way kind count body buf n e = go (ltb greatestSize (sizeOf body)) refl e
   where
     go : (b : Bool) → ltb greatestSize (sizeOf body) ≡ b
-        → cond b (unwritten tooLong buf) (written (message kind count body) buf) .answer ≡ done ∷ n ∷ []
+        → cond b (unwritten tooLong buf) (written (message kind count body) buf) .answer ≡ notRefused ∷ n ∷ []
         → Wrote (cond b (unwritten tooLong buf) (written (message kind count body) buf)) buf n kind count body
     go true q e = absurd (omega (arith, ap length e))
     go false q e = written-way kind count body buf n (ltb-false greatestSize (sizeOf body) q) e
 
-pub start-way : (buf : List ℕ) (kind : ℕ) (e : List ℕ) (n : ℕ) → startOf buf kind e .answer ≡ done ∷ n ∷ []
+pub start-way : (buf : List ℕ) (kind : ℕ) (e : List ℕ) (n : ℕ) → startOf buf kind e .answer ≡ notRefused ∷ n ∷ []
     → (wellFormed kind e ≡ true) × Wrote (startOf buf kind e) buf n kind 1 e
 unfolding startOf unwritten
 start-way buf kind e n h = go (ltb (length buf) leastRoom) (wellFormed kind e) refl h
   where
     go : (a b : Bool) → wellFormed kind e ≡ b
-        → cond a (unwritten writerNoRoom buf) (cond b (offered kind 1 e buf) (unwritten badEntry buf)) .answer ≡ done ∷ n ∷ []
-        → (wellFormed kind e ≡ true) × Wrote (cond a (unwritten writerNoRoom buf) (cond b (offered kind 1 e buf) (unwritten badEntry buf))) buf n kind 1 e
+        → cond a (unwritten noRoom buf) (cond b (offered kind 1 e buf) (unwritten badEntry buf)) .answer ≡ notRefused ∷ n ∷ []
+        → (wellFormed kind e ≡ true) × Wrote (cond a (unwritten noRoom buf) (cond b (offered kind 1 e buf) (unwritten badEntry buf))) buf n kind 1 e
     go true b q h = absurd (omega (arith, ap length h))
     go false false q h = absurd (omega (arith, ap length h))
     go false true q h = (q, offered-way kind 1 e buf n h)
@@ -92,12 +93,12 @@ pub record Grew (buf : List ℕ) (kind : ℕ) (e : List ℕ) (n : ℕ) (o : Writ
   pub wrote : Wrote o buf n kind (messageCount buf + 1) (dataOf buf length-before ++ e)
 
 sound-grew : (buf : List ℕ) (kind : ℕ) (e : List ℕ) (n m : ℕ) → decide buf ≡ Sound m
-    → appendSound m buf kind e .answer ≡ done ∷ n ∷ [] → Grew buf kind e n (appendSound m buf kind e)
+    → appendSound m buf kind e .answer ≡ notRefused ∷ n ∷ [] → Grew buf kind e n (appendSound m buf kind e)
 unfolding appendSound unwritten
 sound-grew buf kind e n m s h = go (eqb kind (pduType buf) && wellFormed kind e) refl h
   where
     go : (a : Bool) → (eqb kind (pduType buf) && wellFormed kind e) ≡ a
-        → cond a (offered kind (messageCount buf + 1) (dataOf buf m ++ e) buf) (unwritten badEntry buf) .answer ≡ done ∷ n ∷ []
+        → cond a (offered kind (messageCount buf + 1) (dataOf buf m ++ e) buf) (unwritten badEntry buf) .answer ≡ notRefused ∷ n ∷ []
         → Grew buf kind e n (cond a (offered kind (messageCount buf + 1) (dataOf buf m ++ e) buf) (unwritten badEntry buf))
     go true q h =
         record {
@@ -109,12 +110,12 @@ sound-grew buf kind e n m s h = go (eqb kind (pduType buf) && wellFormed kind e)
         }
     go false q h = absurd (omega (arith, ap length h))
 
-pub append-way : (buf : List ℕ) (kind : ℕ) (e : List ℕ) (n : ℕ) → appendOf buf kind e .answer ≡ done ∷ n ∷ [] → Grew buf kind e n (appendOf buf kind e)
+pub append-way : (buf : List ℕ) (kind : ℕ) (e : List ℕ) (n : ℕ) → appendOf buf kind e .answer ≡ notRefused ∷ n ∷ [] → Grew buf kind e n (appendOf buf kind e)
 unfolding appendOf appendBy unwritten
 append-way buf kind e n h = go (ltb (length buf) leastRoom) (decide buf) refl h
   where
-    go : (a : Bool) (d : Decision) → decide buf ≡ d → cond a (unwritten writerNoRoom buf) (appendBy d buf kind e) .answer ≡ done ∷ n ∷ []
-        → Grew buf kind e n (cond a (unwritten writerNoRoom buf) (appendBy d buf kind e))
+    go : (a : Bool) (d : Decision) → decide buf ≡ d → cond a (unwritten noRoom buf) (appendBy d buf kind e) .answer ≡ notRefused ∷ n ∷ []
+        → Grew buf kind e n (cond a (unwritten noRoom buf) (appendBy d buf kind e))
     go true d q h = absurd (omega (arith, ap length h))
     go false Undecided q h = absurd (omega (arith, ap length h))
     go false (Faulty f m) q h = absurd (omega (arith, ap (λ (l : List ℕ). getD l 0 0) h))
@@ -140,7 +141,7 @@ wrote-reads o buf n kind count body w k p d =
     rw (w .after, w .size) (reads-as (atFront (message kind count body) buf) (length body + 10) kind count body (front-entries buf kind count body (w .small) k p d) k)
 
 pub start-reads : (buf : List ℕ) (kind : ℕ) (e : List ℕ) (n : ℕ)
-    → startOf buf kind e .answer ≡ done ∷ n ∷ [] → ReadsAs (startOf buf kind e .buffer) n kind (e ∷ [])
+    → startOf buf kind e .answer ≡ notRefused ∷ n ∷ [] → ReadsAs (startOf buf kind e .buffer) n kind (e ∷ [])
 unfolding entriesFill entriesOf
 start-reads buf kind e n h =
     let w = start-way buf kind e n h in
@@ -171,7 +172,7 @@ grown-list c kind type t e es q s f o =
     (rw (add-one, ← l) (entries-append c kind t e g o), rw add-one (fill-append c kind t e g o))
 
 pub append-reads : (buf : List ℕ) (m type : ℕ) (es : List (List ℕ)) (kind : ℕ) (e : List ℕ) (n : ℕ) → ReadsAs buf m type es
-    → appendOf buf kind e .answer ≡ done ∷ n ∷ [] → ReadsAs (appendOf buf kind e .buffer) n type (es ++ (e ∷ []))
+    → appendOf buf kind e .answer ≡ notRefused ∷ n ∷ [] → ReadsAs (appendOf buf kind e .buffer) n type (es ++ (e ∷ []))
 append-reads buf m type es kind e n r h =
     let w = append-way buf kind e n h in
     let k = well-kind kind e (w .well) in
@@ -219,19 +220,19 @@ unfolding heartbeatNumbers heartbeatOf formOf valueOf
 beat-numbers {value = v} (seconds f l) b = simp (eq-eqb (length (bytes16 v)) 2 (length-bytes16 v), be16-bytes v (omega arith), f)
 beat-numbers {value = v} (milliseconds f) b = simp (ne-eqb (length (bytes32 v)) 2 (λ q. omega (arith, length-bytes32 v)), be32-bytes v b, f)
 
-beat-way : (buf : List ℕ) (form value n : ℕ) → keepAliveOf buf form value .answer ≡ done ∷ n ∷ []
+beat-way : (buf : List ℕ) (form value n : ℕ) → keepAliveOf buf form value .answer ≡ notRefused ∷ n ∷ []
     → (beatFits form value ≡ true) × Wrote (keepAliveOf buf form value) buf n keepAlive 1 (beatBytes form value)
 unfolding keepAliveOf unwritten
 beat-way buf form value n h = go (ltb (length buf) leastRoom) (beatFits form value) refl h
   where
     go : (a b : Bool) → beatFits form value ≡ b
-        → cond a (unwritten writerNoRoom buf) (cond b (written (message keepAlive 1 (beatBytes form value)) buf) (unwritten badEntry buf)) .answer ≡ done ∷ n ∷ []
-        → (beatFits form value ≡ true) × Wrote (cond a (unwritten writerNoRoom buf) (cond b (written (message keepAlive 1 (beatBytes form value)) buf) (unwritten badEntry buf))) buf n keepAlive 1 (beatBytes form value)
+        → cond a (unwritten noRoom buf) (cond b (written (message keepAlive 1 (beatBytes form value)) buf) (unwritten badEntry buf)) .answer ≡ notRefused ∷ n ∷ []
+        → (beatFits form value ≡ true) × Wrote (cond a (unwritten noRoom buf) (cond b (written (message keepAlive 1 (beatBytes form value)) buf) (unwritten badEntry buf))) buf n keepAlive 1 (beatBytes form value)
     go true b q h = absurd (omega (arith, ap length h))
     go false false q h = absurd (omega (arith, ap length h))
     go false true q h = (q, written-way keepAlive 1 (beatBytes form value) buf n (beat-small (beat-view form value q)) h)
 
-pub beat-reads : (buf : List ℕ) (form value n : ℕ) → value < 4294967296 → keepAliveOf buf form value .answer ≡ done ∷ n ∷ []
+pub beat-reads : (buf : List ℕ) (form value n : ℕ) → value < 4294967296 → keepAliveOf buf form value .answer ≡ notRefused ∷ n ∷ []
     → readOf (keepAliveOf buf form value .buffer) ≡ 0 ∷ n ∷ keepAlive ∷ 1 ∷ form ∷ value ∷ []
 unfolding readOf readBy messageOf countFault dataSound
 beat-reads buf form value n b h =

@@ -17,11 +17,11 @@ use Rattle.frame.specs.Decide.{decide}
 use Rattle.frame.specs.declared.Decision.{Decision}
 use Rattle.frame.specs.declared.Decision.the-variants.{Undecided, Faulty, Sound}
 use Rattle.frame.proofs.Ways.{deciding}
-use Rattle.reader.specs.Numbers.{fault}
+use Rattle.numbers.specs.Refusal.{fault, notRefused, noRoom, tooLong, badEntry}
 use Rattle.reader.specs.Read.{dataOf}
 use Rattle.writer.specs.declared.Written.{Written}
 use Rattle.writer.specs.declared.Written.the-variants.{Length, NoRoom, Fault, TooLong, BadEntry}
-use Rattle.writer.specs.Numbers.{done, writerNoRoom, tooLong, badEntry, writtenNumbers, Writing, writing}
+use Rattle.writer.specs.Numbers.{writtenNumbers, Writing, writing}
 use Rattle.layout.specs.Message.{sizeOf, message}
 use Rattle.writer.specs.Write.{leastRoom, greatestSeconds, unwritten, written, offered, appendSound, appendBy, appendOf, beatFits, beatBytes}
 use Rattle.writer.specs.Round.{Made, ReadAfterWrite, WriteAfterRead, OneResult}
@@ -51,8 +51,8 @@ write-after-read = record { reads = sound-reads; entries = entries-again; beat =
 -- an answer made again from its numbers
 writtenBack : List ℕ → Written
 writtenBack l =
-    cond (eqb (getD l 0 0) done) (Length (getD l 1 0))
-    (cond (eqb (getD l 0 0) writerNoRoom) NoRoom
+    cond (eqb (getD l 0 0) notRefused) (Length (getD l 1 0))
+    (cond (eqb (getD l 0 0) noRoom) NoRoom
     (cond (eqb (getD l 0 0) fault) (Fault (getD l 1 0)) (cond (eqb (getD l 0 0) tooLong) TooLong BadEntry)))
 
 written-back : (r : Written) → writtenBack (writtenNumbers r) ≡ r
@@ -78,24 +78,24 @@ one-run buf kind es m n s t p q =
     (a .0 ∙ sym (b .0), a .1 ∙ sym (b .1))
 
 -- a sound message has room
-sound-room : (m : ℕ) (buf : List ℕ) (kind : ℕ) (e : List ℕ) → appendSound m buf kind e .answer ≡ writerNoRoom ∷ [] → ⊥
+sound-room : (m : ℕ) (buf : List ℕ) (kind : ℕ) (e : List ℕ) → appendSound m buf kind e .answer ≡ noRoom ∷ [] → ⊥
 unfolding appendSound offered unwritten written
 sound-room m buf kind e h = go (eqb kind (pduType buf) && wellFormed kind e) (ltb greatestSize (sizeOf (dataOf buf m ++ e))) h
   where
     go : (a b : Bool)
         → cond a (cond b (unwritten tooLong buf) (written (message kind (messageCount buf + 1) (dataOf buf m ++ e)) buf)) (unwritten badEntry buf) .answer
-        ≡ writerNoRoom ∷ []
+        ≡ noRoom ∷ []
         → ⊥
     go true true h = omega (arith, ap (λ (l : List ℕ). getD l 0 0) h)
     go true false h = omega (arith, ap length h)
     go false b h = omega (arith, ap (λ (l : List ℕ). getD l 0 0) h)
 
-append-room : (buf : List ℕ) (kind : ℕ) (e : List ℕ) → appendOf buf kind e .answer ≡ writerNoRoom ∷ [] → length buf < leastRoom
+append-room : (buf : List ℕ) (kind : ℕ) (e : List ℕ) → appendOf buf kind e .answer ≡ noRoom ∷ [] → length buf < leastRoom
 unfolding appendOf appendBy unwritten
 append-room buf kind e h = go (ltb (length buf) leastRoom) refl (decide buf) refl h
   where
     go : (a : Bool) → ltb (length buf) leastRoom ≡ a → (d : Decision) → decide buf ≡ d
-        → cond a (unwritten writerNoRoom buf) (appendBy d buf kind e) .answer ≡ writerNoRoom ∷ [] → length buf < leastRoom
+        → cond a (unwritten noRoom buf) (appendBy d buf kind e) .answer ≡ noRoom ∷ [] → length buf < leastRoom
     go true q d s h = ltb-true (length buf) leastRoom q
     go false q Undecided s h = omega (arith, deciding .short buf s)
     go false q (Faulty f m) s h = absurd (omega (arith, ap length h))

@@ -1,28 +1,14 @@
 -- The writer's answers: document 01 'What calls refuse', by its numbers.
 use Prim.Native.Nat.{ℕ}
 use mathlib.Core.List.{List, [], _∷_}
-use Rattle.reader.specs.Numbers.{fault}
+use Rattle.numbers.specs.Refusal.{notRefused, noRoom, fault, tooLong, badEntry}
 use Rattle.writer.specs.declared.Written.{Written}
 use Rattle.writer.specs.declared.Written.the-variants.{Length, NoRoom, Fault, TooLong, BadEntry}
 
--- not a refusal
-abbrev pub done : ℕ
-done = 0
-
--- "4 NoRoom", "10 TooLong", "11 BadEntry"
-abbrev pub writerNoRoom : ℕ
-writerNoRoom = 4
-
-abbrev pub tooLong : ℕ
-tooLong = 10
-
-abbrev pub badEntry : ℕ
-badEntry = 11
-
 -- "the answer .. is the number alone, with a fault for 8"; where nothing is refused "its answer is the message's length"
 unfoldable pub writtenNumbers : Written → List ℕ
-writtenNumbers (Length n) = done ∷ n ∷ []
-writtenNumbers NoRoom = writerNoRoom ∷ []
+writtenNumbers (Length n) = notRefused ∷ n ∷ []
+writtenNumbers NoRoom = noRoom ∷ []
 writtenNumbers (Fault f) = fault ∷ f ∷ []
 writtenNumbers TooLong = tooLong ∷ []
 writtenNumbers BadEntry = badEntry ∷ []

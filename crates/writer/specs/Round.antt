@@ -12,19 +12,20 @@ use Rattle.frame.specs.Entry.{entrySize}
 use Rattle.frame.specs.Decide.{decide}
 use Rattle.frame.specs.declared.Decision.the-variants.{Sound}
 use Rattle.fields.specs.Place.{entryBytes, parametersOf}
-use Rattle.reader.specs.Numbers.{noEntry}
+use Rattle.numbers.specs.Refusal.{noEntry, notRefused, noRoom}
 use Rattle.reader.specs.Read.{dataOf, readOf}
 use Rattle.reader.specs.Entry.{fieldsOf, entryAt, entryOf, partOf}
 use Rattle.writer.specs.declared.Written.{Written}
-use Rattle.writer.specs.Numbers.{done, writerNoRoom, writtenNumbers, Writing, writing}
+use Rattle.writer.specs.Numbers.{writtenNumbers, Writing, writing}
 use Rattle.layout.specs.Message.{message, atFront}
 use Rattle.writer.specs.Write.{leastRoom, greatestSeconds, written, startOf, appendOf, keepAliveOf}
 
 -- a start and appends into buf, none refused, with the entries es: the last answers n, and leaves the buffer after
 pub data Made (buf : List ℕ) (kind : ℕ) : List (List ℕ) → ℕ → List ℕ → Type 0 where
-  started : (e : List ℕ) (n : ℕ) → startOf buf kind e .answer ≡ done ∷ n ∷ [] → Made buf kind (e ∷ []) n (startOf buf kind e .buffer)
+  started : (e : List ℕ) (n : ℕ) → startOf buf kind e .answer ≡ notRefused ∷ n ∷ []
+      → Made buf kind (e ∷ []) n (startOf buf kind e .buffer)
   appended : (es : List (List ℕ)) (m : ℕ) (before e : List ℕ) (n : ℕ) → Made buf kind es m before
-      → appendOf before kind e .answer ≡ done ∷ n ∷ [] → Made buf kind (es ++ (e ∷ [])) n (appendOf before kind e .buffer)
+      → appendOf before kind e .answer ≡ notRefused ∷ n ∷ [] → Made buf kind (es ++ (e ∷ [])) n (appendOf before kind e .buffer)
 
 -- count entries of that type, one behind another
 unfoldable pub entriesOf : ℕ → ℕ → List ℕ → List (List ℕ)
@@ -37,7 +38,7 @@ entriesIn s n = entriesOf (messageCount s) (pduType s) (dataOf s n)
 
 -- the message at the front of s is read as one of n bytes with that type, count, entries and parts
 pub record ReadsAs (s : List ℕ) (n kind : ℕ) (es : List (List ℕ)) : Type 0 where
-  pub message : readOf s ≡ 0 ∷ n ∷ kind ∷ length es ∷ []
+  pub message : readOf s ≡ notRefused ∷ n ∷ kind ∷ length es ∷ []
   pub bytes : (i : ℕ) → i < length es → entryAt s n i ≡ getD es i []
   pub entry : (i : ℕ) → i < length es → entryOf s i ≡ fieldsOf kind (getD es i [])
   pub part : (i : ℕ) → i < length es → partOf s i ≡ parametersOf kind (getD es i [])
@@ -46,22 +47,24 @@ pub record ReadsAs (s : List ℕ) (n kind : ℕ) (es : List (List ℕ)) : Type 0
 -- what start, append (any number of times) and keep-alive write is read as it was given
 pub record ReadAfterWrite : Type 0 where
   pub start : (buf : List ℕ) (kind : ℕ) (e : List ℕ) (n : ℕ)
-      → startOf buf kind e .answer ≡ done ∷ n ∷ [] → ReadsAs (startOf buf kind e .buffer) n kind (e ∷ [])
+      → startOf buf kind e .answer ≡ notRefused ∷ n ∷ [] → ReadsAs (startOf buf kind e .buffer) n kind (e ∷ [])
   pub append : (buf : List ℕ) (m type : ℕ) (es : List (List ℕ)) (kind : ℕ) (e : List ℕ) (n : ℕ) → ReadsAs buf m type es
-      → appendOf buf kind e .answer ≡ done ∷ n ∷ [] → ReadsAs (appendOf buf kind e .buffer) n type (es ++ (e ∷ []))
+      → appendOf buf kind e .answer ≡ notRefused ∷ n ∷ [] → ReadsAs (appendOf buf kind e .buffer) n type (es ++ (e ∷ []))
   pub all : (buf : List ℕ) (kind : ℕ) (es : List (List ℕ)) (n : ℕ) (after : List ℕ) → Made buf kind es n after → ReadsAs after n kind es
   -- the bytes: the message of those entries at the buffer's front
   pub bytes : (buf : List ℕ) (kind : ℕ) (es : List (List ℕ)) (n : ℕ) (after : List ℕ) → Made buf kind es n after
       → (n ≡ length (joined es) + headerEnd) × (after ≡ atFront (message kind (length es) (joined es)) buf)
   pub beat : (buf : List ℕ) (form value n : ℕ) → value < 4294967296
-      → keepAliveOf buf form value .answer ≡ done ∷ n ∷ []
-      → readOf (keepAliveOf buf form value .buffer) ≡ 0 ∷ n ∷ keepAlive ∷ 1 ∷ form ∷ value ∷ []
+      → keepAliveOf buf form value .answer ≡ notRefused ∷ n ∷ []
+      → readOf (keepAliveOf buf form value .buffer) ≡ notRefused ∷ n ∷ keepAlive ∷ 1 ∷ form ∷ value ∷ []
   -- zero and the largest values too
   pub ends : (buf : List ℕ) → leastRoom ≤ length buf
-      → (readOf (keepAliveOf buf secondsForm 0 .buffer) ≡ 0 ∷ 12 ∷ keepAlive ∷ 1 ∷ secondsForm ∷ 0 ∷ [])
-      × (readOf (keepAliveOf buf secondsForm greatestSeconds .buffer) ≡ 0 ∷ 12 ∷ keepAlive ∷ 1 ∷ secondsForm ∷ greatestSeconds ∷ [])
-      × (readOf (keepAliveOf buf millisecondsForm 0 .buffer) ≡ 0 ∷ 14 ∷ keepAlive ∷ 1 ∷ millisecondsForm ∷ 0 ∷ [])
-      × (readOf (keepAliveOf buf millisecondsForm 4294967295 .buffer) ≡ 0 ∷ 14 ∷ keepAlive ∷ 1 ∷ millisecondsForm ∷ 4294967295 ∷ [])
+      → (readOf (keepAliveOf buf secondsForm 0 .buffer) ≡ notRefused ∷ 12 ∷ keepAlive ∷ 1 ∷ secondsForm ∷ 0 ∷ [])
+      × (readOf (keepAliveOf buf secondsForm greatestSeconds .buffer)
+      ≡ notRefused ∷ 12 ∷ keepAlive ∷ 1 ∷ secondsForm ∷ greatestSeconds ∷ [])
+      × (readOf (keepAliveOf buf millisecondsForm 0 .buffer) ≡ notRefused ∷ 14 ∷ keepAlive ∷ 1 ∷ millisecondsForm ∷ 0 ∷ [])
+      × (readOf (keepAliveOf buf millisecondsForm 4294967295 .buffer)
+      ≡ notRefused ∷ 14 ∷ keepAlive ∷ 1 ∷ millisecondsForm ∷ 4294967295 ∷ [])
 
 -- what was read is written again as the same bytes, into any buffer that has room
 pub record WriteAfterRead : Type 0 where
@@ -69,7 +72,7 @@ pub record WriteAfterRead : Type 0 where
   pub entries : (s buf : List ℕ) (n : ℕ) → Octets s → leastRoom ≤ length buf → decide s ≡ Sound n → pduType s ≤ response
       → Made buf (pduType s) (entriesIn s n) n (atFront (take n s) buf)
   pub beat : (s buf : List ℕ) (n form value : ℕ) → Octets s → leastRoom ≤ length buf
-      → readOf s ≡ 0 ∷ n ∷ keepAlive ∷ 1 ∷ form ∷ value ∷ []
+      → readOf s ≡ notRefused ∷ n ∷ keepAlive ∷ 1 ∷ form ∷ value ∷ []
       → keepAliveOf buf form value ≡ written (take n s) buf
 
 -- the numbers of an answer tell it from every other, so that two results which a promise allows are equal
@@ -78,4 +81,4 @@ pub record OneResult : Type 0 where
   pub results : (o : Writing) (a b : Written) (s t : List ℕ) → writing a s ≡ o → writing b t ≡ o → (a ≡ b) × (s ≡ t)
   pub runs : (buf : List ℕ) (kind : ℕ) (es : List (List ℕ)) (m n : ℕ) (s t : List ℕ) → Made buf kind es m s → Made buf kind es n t → (m ≡ n) × (s ≡ t)
   -- 2,049 bytes always decide: append refuses by 4 only where the buffer is under 2,049
-  pub room : (buf : List ℕ) (kind : ℕ) (e : List ℕ) → appendOf buf kind e .answer ≡ writerNoRoom ∷ [] → length buf < leastRoom
+  pub room : (buf : List ℕ) (kind : ℕ) (e : List ℕ) → appendOf buf kind e .answer ≡ noRoom ∷ [] → length buf < leastRoom

@@ -2,14 +2,13 @@ use denote.Ref.{now}
 use native.Mathlib.Omega.{arith}
 use Rattle.endpoint.proofs.States.{clear-done}
 use Rattle.laws.proofs.Conds.{tests}
-use Rattle.endpoint.specs.Numbers.{clearingNumbers}
 use Rattle.endpoint.specs.Calls.{clearAnswer, clearedArea}
 use borrow.Author.Needs.{needs}
 use Rattle.endpoint.proofs.clear_area.Statement.{statement}
 use Rattle.endpoint.proofs.clear_area.Tie as tie
 
 returns : tie.Need-returns
-unfolding clearingNumbers clearAnswer clearedArea
+unfolding clearAnswer clearedArea
 returns c = search tests
 
 clear-requires : tie.Need-clear-requires
@@ -19,7 +18,6 @@ same-length : tie.Need-same-length
 same-length c = search needs
 
 returns-2 : tie.Need-returns-2
-unfolding clearingNumbers
 returns-2 c =
     let a = now (c .before .before .before .before .before .before .args .area) in
     clear-done a (c .before .before .clear .last .0) (omega arith) (c .before .before .clear .ensures)

@@ -1,4 +1,6 @@
-use Rattle.host.proofs.Tellings.{cleared-told}
+use mathlib.Core.Path.{ap, _∙_}
+use Rattle.answers.specs.declared.Numbers.{Numbers}
+use Rattle.host.specs.Answers.{clearedOf}
 use borrow.Author.Needs.{needs}
 use Rattle.host.proofs.melorwyth_clear.Statement.{statement}
 use Rattle.host.proofs.melorwyth_clear.Tie as tie
@@ -6,17 +8,18 @@ use Rattle.host.proofs.melorwyth_clear.Tie as tie
 clear-area-requires : tie.Need-clear-area-requires
 clear-area-requires c κs = search needs
 
-of-clearing-requires : tie.Need-of-clearing-requires
-of-clearing-requires c κs = search needs
+numbers-requires : tie.Need-numbers-requires
+numbers-requires c κs = search needs
 
 same-length : tie.Need-same-length
 same-length c = search needs
 
 returns : tie.Need-returns
+unfolding clearedOf
 returns c =
     let e = c .before .before .before .clear-area .ensures in
-    (cleared-told _ _ _ (c .of-clearing .ensures) (e .0), e .1)
+    (ap (λ (m : Numbers). record { number = m .number }) (c .numbers .ensures) ∙ ap clearedOf (e .0), e .1)
 
 pub melorwyth-clear-spec : {M : Type 1} → statement M
 melorwyth-clear-spec =
-    tie.close (tie.spec clear-area-requires of-clearing-requires same-length returns)
+    tie.close (tie.spec clear-area-requires numbers-requires same-length returns)

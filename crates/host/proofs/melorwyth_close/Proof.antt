@@ -1,4 +1,5 @@
-use Rattle.host.proofs.Tellings.{closed-told, area-told}
+use Rattle.host.specs.Answers.{closedWith, closedOf}
+use Rattle.host.proofs.Tellings.{told, area-told}
 use borrow.Author.Needs.{needs}
 use Rattle.host.proofs.melorwyth_close.Statement.{statement}
 use Rattle.host.proofs.melorwyth_close.Tie as tie
@@ -6,16 +7,17 @@ use Rattle.host.proofs.melorwyth_close.Tie as tie
 close-requires : tie.Need-close-requires
 close-requires c κs = search needs
 
-of-closing-requires : tie.Need-of-closing-requires
-of-closing-requires c κs = search needs
+numbers-requires : tie.Need-numbers-requires
+numbers-requires c κs = search needs
 
 same-length : tie.Need-same-length
 same-length c = search needs
 
 returns : tie.Need-returns
+unfolding closedOf
 returns c =
     let e = c .before .before .before .before .close .ensures in
-    (closed-told _ _ _ _ _ e _ (c .of-closing .ensures), area-told _ _ _ _ _ e)
+    (told _ _ _ _ _ e closedWith _ (c .numbers .ensures), area-told _ _ _ _ _ e)
 
 pub melorwyth-close-spec : {M : Type 1} → statement M
-melorwyth-close-spec = tie.close (tie.spec close-requires of-closing-requires same-length returns)
+melorwyth-close-spec = tie.close (tie.spec close-requires numbers-requires same-length returns)

@@ -1,4 +1,5 @@
-use Rattle.host.proofs.Tellings.{ticked-told, area-told}
+use Rattle.host.specs.Answers.{tickedWith, tickedOf}
+use Rattle.host.proofs.Tellings.{told, area-told}
 use borrow.Author.Needs.{needs}
 use Rattle.host.proofs.melorwyth_tick.Statement.{statement}
 use Rattle.host.proofs.melorwyth_tick.Tie as tie
@@ -6,16 +7,17 @@ use Rattle.host.proofs.melorwyth_tick.Tie as tie
 tick-requires : tie.Need-tick-requires
 tick-requires c κs = search needs
 
-of-ticking-requires : tie.Need-of-ticking-requires
-of-ticking-requires c κs = search needs
+numbers-requires : tie.Need-numbers-requires
+numbers-requires c κs = search needs
 
 same-length : tie.Need-same-length
 same-length c = search needs
 
 returns : tie.Need-returns
+unfolding tickedOf
 returns c =
     let e = c .before .before .before .before .tick .ensures in
-    (ticked-told _ _ _ _ _ e _ (c .of-ticking .ensures), area-told _ _ _ _ _ e)
+    (told _ _ _ _ _ e tickedWith _ (c .numbers .ensures), area-told _ _ _ _ _ e)
 
 pub melorwyth-tick-spec : {M : Type 1} → statement M
-melorwyth-tick-spec = tie.close (tie.spec tick-requires of-ticking-requires same-length returns)
+melorwyth-tick-spec = tie.close (tie.spec tick-requires numbers-requires same-length returns)

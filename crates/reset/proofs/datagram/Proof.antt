@@ -1,7 +1,6 @@
 use native.Mathlib.Omega.{arith}
 use denote.Ref.{now}
 use Rattle.laws.proofs.Parts.{rest}
-use Rattle.reset.specs.Numbers.{resettingNumbers}
 use Rattle.reset.proofs.Datagrams.{sound-long, all-cleared, datagram-bad, datagram-area, datagram-nothing, datagram-done}
 use borrow.Author.Needs.{needs}
 use Rattle.reset.proofs.datagram.Statement.{statement}
@@ -11,7 +10,6 @@ obeys-requires : tie.Need-obeys-requires
 obeys-requires c κs = search needs
 
 returns : tie.Need-returns
-unfolding resettingNumbers
 returns c =
     let a = c .before .before .before .before .args in
     datagram-bad (a .state) _ (c .before .obeys .ensures) (c .if1 .taken) (now (a .area)) (now (a .datagram))
@@ -32,7 +30,6 @@ same-length : tie.Need-same-length
 same-length c = search needs
 
 returns-2 : tie.Need-returns-2
-unfolding resettingNumbers
 returns-2 c =
     let a = c .before .before .before .before .before .before .before .before .before .args in
     let u = c .before .before .before .before .before in
@@ -45,7 +42,6 @@ same-length-2 : tie.Need-same-length-2
 same-length-2 c = search needs
 
 returns-3 : tie.Need-returns-3
-unfolding resettingNumbers
 returns-3 c =
     let v = c .before .before .before .before in
     let u = v .before .before .before .before .before in
@@ -76,7 +72,6 @@ same-length-3 : tie.Need-same-length-3
 same-length-3 c = search needs
 
 returns-4 : tie.Need-returns-4
-unfolding resettingNumbers
 returns-4 c =
     let w = c .before .before .before .before .before in
     let v = w .before .before .before .before in

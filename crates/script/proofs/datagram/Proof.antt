@@ -5,13 +5,13 @@ use Rattle.script.proofs.datagram.Tie as tie
 use Rattle.script.proofs.datagram.Reads as reads
 use Rattle.script.proofs.datagram.Lts as lts
 use Rattle.reset.proofs.datagram.Reads as datagram-reads
-use Rattle.script.proofs.resetting_numbers.Reads as resetting-numbers-reads
+use Rattle.answers.proofs.Resetting.numbers.Reads as numbers-reads
 
 datagram-requires : tie.Need-datagram-requires
 datagram-requires c κs = search needs
 
-resetting-numbers-requires : tie.Need-resetting-numbers-requires
-resetting-numbers-requires c κs = search needs
+numbers-requires : tie.Need-numbers-requires
+numbers-requires c κs = search needs
 
 same-length : tie.Need-same-length
 same-length c = search needs
@@ -22,4 +22,4 @@ returns c = search (datagram-stage, needs)
 pub datagram-spec : {M : Type 1} → statement M
 datagram-spec =
     tie.close
-    (tie.spec datagram-requires resetting-numbers-requires same-length returns)
+    (tie.spec datagram-requires numbers-requires same-length returns)

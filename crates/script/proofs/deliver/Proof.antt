@@ -5,13 +5,13 @@ use Rattle.script.proofs.deliver.Tie as tie
 use Rattle.script.proofs.deliver.Reads as reads
 use Rattle.script.proofs.deliver.Lts as lts
 use Rattle.endpoint.proofs.Record.deliver.Reads as deliver-reads
-use Rattle.script.proofs.delivery_numbers.Reads as delivery-numbers-reads
+use Rattle.answers.proofs.Delivery.numbers.Reads as numbers-reads
 
 deliver-requires : tie.Need-deliver-requires
 deliver-requires c κs = search needs
 
-delivery-numbers-requires : tie.Need-delivery-numbers-requires
-delivery-numbers-requires c κs = search needs
+numbers-requires : tie.Need-numbers-requires
+numbers-requires c κs = search needs
 
 same-length : tie.Need-same-length
 same-length c = search needs
@@ -25,4 +25,4 @@ returns c = search (deliver-stage, needs)
 pub deliver-spec : {M : Type 1} → statement M
 deliver-spec =
     tie.close
-    (tie.spec deliver-requires delivery-numbers-requires same-length same-length-2 returns)
+    (tie.spec deliver-requires numbers-requires same-length same-length-2 returns)

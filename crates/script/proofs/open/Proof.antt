@@ -5,16 +5,16 @@ use Rattle.script.proofs.open.Tie as tie
 use Rattle.script.proofs.open.Reads as reads
 use Rattle.script.proofs.open.Lts as lts
 use Rattle.endpoint.proofs.Record.open.Reads as open-reads
-use Rattle.script.proofs.opening_numbers.Reads as opening-numbers-reads
+use Rattle.answers.proofs.Opening.numbers.Reads as numbers-reads
 
 open-requires : tie.Need-open-requires
 open-requires c κs = search needs
 
-opening-numbers-requires : tie.Need-opening-numbers-requires
-opening-numbers-requires c κs = search needs
+numbers-requires : tie.Need-numbers-requires
+numbers-requires c κs = search needs
 
 returns : tie.Need-returns
 returns c = search (open-stage, needs)
 
 pub open-spec : {M : Type 1} → statement M
-open-spec = tie.close (tie.spec open-requires opening-numbers-requires returns)
+open-spec = tie.close (tie.spec open-requires numbers-requires returns)

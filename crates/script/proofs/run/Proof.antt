@@ -10,7 +10,6 @@ use Rattle.script.proofs.run.Statement.{statement}
 use Rattle.script.proofs.run.Tie as tie
 use Rattle.script.proofs.run.Reads as reads
 use Rattle.script.proofs.run.Lts as lts
-use Rattle.script.proofs.done.Reads as done-reads
 use Rattle.script.proofs.first.Reads as first-reads
 use Rattle.script.proofs.first_size.Reads as first-size-reads
 
@@ -19,9 +18,6 @@ Inv-loop area₀ script output₀ last₀ t₀ area output last t = Playing (las
 
 abbrev μ-loop : tie.MeasureT-loop
 μ-loop area₀ script output₀ last₀ t₀ area output last t = length t
-
-done-requires : tie.Need-done-requires Inv-loop μ-loop
-done-requires c κs = search needs
 
 loop-holds : tie.Need-loop-holds Inv-loop μ-loop
 loop-holds c = search (playing-none, needs)
@@ -74,7 +70,6 @@ run-spec =
     (tie.spec
     Inv-loop
     μ-loop
-    done-requires
     loop-holds
     first-size-requires
     first-requires

@@ -5,13 +5,13 @@ use Rattle.script.proofs.take.Tie as tie
 use Rattle.script.proofs.take.Reads as reads
 use Rattle.script.proofs.take.Lts as lts
 use Rattle.endpoint.proofs.Record.take.Reads as take-reads
-use Rattle.script.proofs.taking_numbers.Reads as taking-numbers-reads
+use Rattle.answers.proofs.Taking.numbers.Reads as numbers-reads
 
 take-requires : tie.Need-take-requires
 take-requires c κs = search needs
 
-taking-numbers-requires : tie.Need-taking-numbers-requires
-taking-numbers-requires c κs = search needs
+numbers-requires : tie.Need-numbers-requires
+numbers-requires c κs = search needs
 
 same-length : tie.Need-same-length
 same-length c = search needs
@@ -20,4 +20,4 @@ returns : tie.Need-returns
 returns c = search (take-stage, needs)
 
 pub take-spec : {M : Type 1} → statement M
-take-spec = tie.close (tie.spec take-requires taking-numbers-requires same-length returns)
+take-spec = tie.close (tie.spec take-requires numbers-requires same-length returns)

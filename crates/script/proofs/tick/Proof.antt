@@ -5,13 +5,13 @@ use Rattle.script.proofs.tick.Tie as tie
 use Rattle.script.proofs.tick.Reads as reads
 use Rattle.script.proofs.tick.Lts as lts
 use Rattle.endpoint.proofs.Record.tick.Reads as tick-reads
-use Rattle.script.proofs.ticking_numbers.Reads as ticking-numbers-reads
+use Rattle.answers.proofs.Ticking.numbers.Reads as numbers-reads
 
 tick-requires : tie.Need-tick-requires
 tick-requires c κs = search needs
 
-ticking-numbers-requires : tie.Need-ticking-numbers-requires
-ticking-numbers-requires c κs = search needs
+numbers-requires : tie.Need-numbers-requires
+numbers-requires c κs = search needs
 
 same-length : tie.Need-same-length
 same-length c = search needs
@@ -20,4 +20,4 @@ returns : tie.Need-returns
 returns c = search (tick-stage, needs)
 
 pub tick-spec : {M : Type 1} → statement M
-tick-spec = tie.close (tie.spec tick-requires ticking-numbers-requires same-length returns)
+tick-spec = tie.close (tie.spec tick-requires numbers-requires same-length returns)

@@ -5,7 +5,6 @@ use denote.Ref.{now}
 use native.Mathlib.Omega.{arith}
 use Rattle.laws.proofs.Parts.{rest}
 use Rattle.laws.proofs.Tables.{length-mapped}
-use Rattle.endpoint.specs.Numbers.{closingNumbers}
 use Rattle.endpoint.proofs.States.{live-low, close-bad, close-area, close-none, close-done, sound-long}
 use borrow.Author.Needs.{needs}
 use Rattle.endpoint.proofs.Record.close.Statement.{statement}
@@ -15,7 +14,6 @@ obeys-requires : tie.Need-obeys-requires
 obeys-requires c κs = search needs
 
 returns : tie.Need-returns
-unfolding closingNumbers
 returns c =
     let a = c .before .before .before .args in
     close-bad (a .self) _ (c .before .obeys .ensures) (c .if1 .taken) (now (a .area)) (a .n)
@@ -36,7 +34,6 @@ same-length : tie.Need-same-length
 same-length c = search needs
 
 returns-2 : tie.Need-returns-2
-unfolding closingNumbers
 returns-2 c =
     let a = c .before .before .before .before .before .before .before .before .args in
     let u = c .before .before .before .before .before in
@@ -49,7 +46,6 @@ same-length-2 : tie.Need-same-length-2
 same-length-2 c = search needs
 
 returns-3 : tie.Need-returns-3
-unfolding closingNumbers
 returns-3 c =
     let a = c .before .before .before .before .before .before .before .before .before .before .before .before .args in
     let u = c .before .before .before .before .before .before .before .before .before in
@@ -78,7 +74,6 @@ same-length-3 : tie.Need-same-length-3
 same-length-3 c = search needs
 
 returns-4 : tie.Need-returns-4
-unfolding closingNumbers
 returns-4 c =
     let a = c .before .before .before .before .before .before .before .before .before .before .before .before .before .before .before .before .before .args in
     let u = c .before .before .before .before .before .before .before .before .before .before .before .before .before .before in

@@ -5,7 +5,6 @@ use native.Mathlib.Omega.{arith}
 use Rattle.laws.proofs.Parts.{rest}
 use Rattle.laws.proofs.Tables.{length-mapped}
 use Rattle.endpoint.proofs.Delivers.{deliver-bad, deliver-area, deliver-none, deliver-room, deliver-done, deliver-lies}
-use Rattle.endpoint.specs.Numbers.{deliveryNumbers}
 use borrow.Author.Needs.{needs}
 use Rattle.endpoint.proofs.Record.deliver.Statement.{statement}
 use Rattle.endpoint.proofs.Record.deliver.Tie as tie
@@ -14,7 +13,6 @@ obeys-requires : tie.Need-obeys-requires
 obeys-requires c κs = search needs
 
 returns : tie.Need-returns
-unfolding deliveryNumbers
 returns c =
     let a = c .before .before .before .before .before .args in
     deliver-bad (a .self) _ (c .before .obeys .ensures) (now (a .area)) (a .n) (now (a .piece)) (now (a .output)) (c .if1 .taken)
@@ -35,7 +33,6 @@ same-length : tie.Need-same-length
 same-length c = search needs
 
 returns-2 : tie.Need-returns-2
-unfolding deliveryNumbers
 returns-2 c =
     let a = c .before .before .before .before .before .before .before .before .before .before .args in
     let u = c .before .before .before .before .before in
@@ -48,7 +45,6 @@ same-length-2 : tie.Need-same-length-2
 same-length-2 c = search needs
 
 returns-3 : tie.Need-returns-3
-unfolding deliveryNumbers
 returns-3 c =
     let a = c .before .before .before .before .before .before .before .before .before .before .before .before .before .before .args in
     let u = c .before .before .before .before .before .before .before .before .before in
@@ -59,7 +55,6 @@ same-length-3 : tie.Need-same-length-3
 same-length-3 c = search needs
 
 returns-4 : tie.Need-returns-4
-unfolding deliveryNumbers
 returns-4 c =
     let a = c .before .before .before .before .before .before .before .before .before .before .before .before .before .before .before .args in
     let u = c .before .before .before .before .before .before .before .before .before .before in

@@ -1,4 +1,3 @@
-use Rattle.endpoint.specs.Numbers.{openingNumbers}
 use Rattle.endpoint.proofs.States.{open-bad, open-number, open-full}
 use borrow.Author.Needs.{needs}
 use Rattle.endpoint.proofs.Record.open.Statement.{statement}
@@ -8,7 +7,6 @@ obeys-requires : tie.Need-obeys-requires
 obeys-requires c κs = search needs
 
 returns : tie.Need-returns
-unfolding openingNumbers
 returns c = open-bad (c .before .before .args .self) _ (c .before .obeys .ensures) (c .if1 .taken)
 
 open-requires : tie.Need-open-requires
@@ -21,14 +19,12 @@ enum-told : tie.Need-enum-told
 enum-told c = search needs
 
 returns-2 : tie.Need-returns-2
-unfolding openingNumbers
 returns-2 c =
     let u = c .before .before .before .before .before .before in
     let o = c .before .before .before .before .«open» in
     open-number (u .before .before .args .self) _ (u .before .obeys .ensures) (u .if1 .left) (o .result) _ (o .ensures) (c .before .before .answer .given .1)
 
 returns-3 : tie.Need-returns-3
-unfolding openingNumbers
 returns-3 c =
     let u = c .before .before .before .before in
     let o = c .before .before .«open» in

@@ -1,5 +1,4 @@
 use denote.Ref.{now}
-use Rattle.endpoint.specs.Numbers.{tickingNumbers}
 use Rattle.endpoint.proofs.States.{tick-closed, tick-back, tick-over}
 use borrow.Author.Needs.{needs}
 use Rattle.endpoint.proofs.Record.pass.Statement.{statement}
@@ -30,21 +29,18 @@ same-length : tie.Need-same-length
 same-length c = search needs
 
 returns : tie.Need-returns
-unfolding tickingNumbers
 returns c =
     let a = c .before .before .before .before .before .before .before .before .before .before .before .before .before .before .args in
     let t = c .before .before .before .before .before .before .before .before .before .before .tick in
     tick-closed (a .self) (now (a .area)) (a .reading) (t .result) (t .ensures) _ (c .before .before .before .before .before .before .before .before .answer .given .1) _ _ _ (c .before .before .before .before .before .lives .ensures) (c .held-kept .ensures) (c .before .before .before .clear-closed .ensures)
 
 returns-2 : tie.Need-returns-2
-unfolding tickingNumbers
 returns-2 c =
     let a = c .before .before .before .before .before .before .args in
     let t = c .before .before .tick in
     tick-back (a .self) (now (a .area)) (a .reading) (t .result) (t .ensures) (c .enum-told .given .1)
 
 returns-3 : tie.Need-returns-3
-unfolding tickingNumbers
 returns-3 c =
     let a = c .before .before .before .before .before .before .args in
     let t = c .before .before .tick in

@@ -1,6 +1,5 @@
 use denote.Ref.{now}
 use Rattle.laws.proofs.Parts.{rest}
-use Rattle.endpoint.specs.Numbers.{tickingNumbers}
 use Rattle.endpoint.proofs.States.{tick-bad, tick-area, tick-passed, sound-long}
 use borrow.Author.Needs.{needs}
 use Rattle.endpoint.proofs.Record.tick.Statement.{statement}
@@ -10,7 +9,6 @@ obeys-requires : tie.Need-obeys-requires
 obeys-requires c κs = search needs
 
 returns : tie.Need-returns
-unfolding tickingNumbers
 returns c =
     let a = c .before .before .before .args in
     tick-bad (a .self) _ (c .before .obeys .ensures) (c .if1 .taken) (now (a .area)) (a .reading)
@@ -31,7 +29,6 @@ same-length : tie.Need-same-length
 same-length c = search needs
 
 returns-2 : tie.Need-returns-2
-unfolding tickingNumbers
 returns-2 c =
     let a = c .before .before .before .before .before .before .before .before .args in
     let u = c .before .before .before .before .before in
@@ -48,7 +45,6 @@ same-length-2 : tie.Need-same-length-2
 same-length-2 c = search needs
 
 returns-3 : tie.Need-returns-3
-unfolding tickingNumbers
 returns-3 c =
     let a = c .before .before .before .before .before .before .before .before .before .before .before .before .args in
     let u = c .before .before .before .before .before .before .before .before .before in

@@ -1,9 +1,0 @@
-use Rattle.endpoint.proofs.Tells.{answers-tell}
-use Rattle.endpoint.proofs.answers_tell.Statement.{statement}
-use Rattle.endpoint.proofs.answers_tell.Tie as tie
-
-returns : tie.Need-returns
-returns c = answers-tell
-
-pub answers-tell-spec : {M : Type 1} → statement M
-answers-tell-spec = tie.close (tie.spec returns)
