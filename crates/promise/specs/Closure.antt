@@ -40,7 +40,8 @@ pub record Closed (n : ℕ) (r : Record) (area : List ℕ) (o : Outcome) : Type 
   pub left : Left n r (o .state) (o .area)
   pub others : (k : ℕ) → eqb k n ≡ false → liveAt (r .device .connections) k ≡ true → Unmoved k r area (o .state) (o .area)
   -- of the others, silence, quiet and heartbeat too
-  pub supervised : (k : ℕ) → eqb k n ≡ false → getD (o .state .device .connections) k closed ≡ getD (r .device .connections) k closed
+  pub supervised : (k : ℕ) → eqb k n ≡ false
+      → getD (o .state .device .connections) k closed ≡ getD (r .device .connections) k closed
 
 -- connection n is newly opened: all counts zero, no lock, no entry, no byte
 pub record New (n : ℕ) (r r' : Record) (area : List ℕ) : Type 0 where
@@ -51,14 +52,32 @@ pub record New (n : ℕ) (r r' : Record) (area : List ℕ) : Type 0 where
   pub count : heldAt r' n ≡ 0
   pub bytes : areaPart area n ≡ zeros partBytes
 
+-- ---- what is supposed, of a record and an area that rows 1 and 2 let pass
+
+-- the tick answers by this mask
+pub record TickTold (r : Record) (area : List ℕ) (reading mask : ℕ) : Type 0 where
+  pub kept : Kept r area
+  pub answer : tickCall r area reading .answer ≡ 0 ∷ mask ∷ []
+
+-- the opening answers by this number
+pub record OpeningTold (r : Record) (area : List ℕ) (n : ℕ) : Type 0 where
+  pub kept : Kept r area
+  pub answer : openCall r .answer ≡ 0 ∷ n ∷ []
+
 pub record ClosureLeavesNothing : Type 0 where
   -- the host's close
-  pub byHost : (r : Record) (area : List ℕ) (n : ℕ) → Kept r area → closeCall r area n .answer ≡ 0 ∷ [] → Closed n r area (closeCall r area n)
+  pub byHost : (r : Record) (area : List ℕ) (n : ℕ) → Kept r area → closeCall r area n .answer ≡ 0 ∷ []
+      → Closed n r area (closeCall r area n)
   -- a fault in the bytes delivered
-  pub byFault : (r : Record) (area : List ℕ) (n : ℕ) (piece out : List ℕ) (taken fault : ℕ) → Kept r area → deliverCall r area n piece out .answer ≡ 0 ∷ 3 ∷ taken ∷ fault ∷ [] → Closed n r area (deliverCall r area n piece out)
+  pub byFault : (r : Record) (area : List ℕ) (n : ℕ) (piece out : List ℕ) (taken fault : ℕ) → Kept r area
+      → deliverCall r area n piece out .answer ≡ 0 ∷ 3 ∷ taken ∷ fault ∷ [] → Closed n r area (deliverCall r area n piece out)
   -- a tick: whoever's bit is set, and whoever's is not
-  pub byTick : (r : Record) (area : List ℕ) (reading mask : ℕ) → Kept r area → tickCall r area reading .answer ≡ 0 ∷ mask ∷ [] → (n : ℕ) → bitOf mask n ≡ true → Left n r (tickCall r area reading .state) (tickCall r area reading .area)
-  pub byTickOthers : (r : Record) (area : List ℕ) (reading mask : ℕ) → Kept r area → tickCall r area reading .answer ≡ 0 ∷ mask ∷ [] → (k : ℕ) → bitOf mask k ≡ false → liveAt (r .device .connections) k ≡ true → Unmoved k r area (tickCall r area reading .state) (tickCall r area reading .area)
+  pub byTick : (r : Record) (area : List ℕ) (reading mask : ℕ) → TickTold r area reading mask → (n : ℕ) → bitOf mask n ≡ true
+      → Left n r (tickCall r area reading .state) (tickCall r area reading .area)
+  pub byTickOthers : (r : Record) (area : List ℕ) (reading mask : ℕ) → TickTold r area reading mask → (k : ℕ) → bitOf mask k ≡ false
+      → liveAt (r .device .connections) k ≡ true
+      → Unmoved k r area (tickCall r area reading .state) (tickCall r area reading .area)
   -- opening gives a number that was not open, and whatever was there before, it starts as newly opened
-  pub reopened : (r : Record) (area : List ℕ) (n : ℕ) → Kept r area → openCall r .answer ≡ 0 ∷ n ∷ [] → New n r (openCall r .state) area
-  pub openOthers : (r : Record) (area : List ℕ) (n : ℕ) → Kept r area → openCall r .answer ≡ 0 ∷ n ∷ [] → (k : ℕ) → liveAt (r .device .connections) k ≡ true → Unmoved k r area (openCall r .state) area
+  pub reopened : (r : Record) (area : List ℕ) (n : ℕ) → OpeningTold r area n → New n r (openCall r .state) area
+  pub openOthers : (r : Record) (area : List ℕ) (n : ℕ) → OpeningTold r area n
+      → (k : ℕ) → liveAt (r .device .connections) k ≡ true → Unmoved k r area (openCall r .state) area

@@ -88,7 +88,8 @@ pub record Reminds (r : Record) (out : List ℕ) (n H : ℕ) : Type 0 where
   pub output : takeCall r out .output ≡ atFront (keepAliveBytes heartbeat) out
   pub after : Paced (takeCall r out .state .device) n H 0 false
 
--- the take sends connection n something, a notification (1) or a keep-alive (2), clears its quiet and due, and leaves the others as they were
+-- the take sends connection n something, a notification (1) or a keep-alive (2), clears its quiet and due, and leaves the others as
+-- they were
 pub record SendsTo (r : Record) (out : List ℕ) (n : ℕ) : Type 0 where
   pub kind : ℕ
   pub size : ℕ
@@ -96,7 +97,8 @@ pub record SendsTo (r : Record) (out : List ℕ) (n : ℕ) : Type 0 where
   pub answer : takeCall r out .answer ≡ 0 ∷ kind ∷ n ∷ size ∷ []
   pub quiet : getD (takeCall r out .state .device .connections) n closed .quiet ≡ 0
   pub due : getD (takeCall r out .state .device .connections) n closed .due ≡ false
-  pub others : (k : ℕ) → eqb k n ≡ false → getD (takeCall r out .state .device .connections) k closed ≡ getD (r .device .connections) k closed
+  pub others : (k : ℕ) → eqb k n ≡ false
+      → getD (takeCall r out .state .device .connections) k closed ≡ getD (r .device .connections) k closed
 
 -- how many elements meet the test
 abbrev pub count : {A : Type 0} → (A → Bool) → List A → ℕ
@@ -119,27 +121,76 @@ unfoldable pub takesCall : Record → (ℕ → List ℕ) → ℕ → Record
 takesCall r outs zero = r
 takesCall r outs (suc k) = takesCall (takeCall r (outs 0) .state) (λ i. outs (suc i)) k
 
+-- one of the next takes, fewer than most, sends connection n something
+pub record SentWithin (r : Record) (outs : ℕ → List ℕ) (n most : ℕ) : Type 0 where
+  pub which : ℕ
+  pub soon : which < most
+  pub sends : SendsTo (takesCall r outs which) (outs which) n
+
+-- ---- what is supposed
+
+-- the tick is not refused and leaves connection n open, which was paced so before it
+pub record PacedTick (r : Record) (area : List ℕ) (reading n H quiet : ℕ) (due : Bool) : Type 0 where
+  pub paced : Paced (r .device) n H quiet due
+  pub passing : passes r area reading ≡ true
+  pub stays : openAfter r area reading n ≡ true
+
+-- none of the ticks is refused, and they leave connection n open, which was paced so and not due before them
+pub record PacedTicks (r : Record) (area readings : List ℕ) (n H quiet : ℕ) : Type 0 where
+  pub paced : Paced (r .device) n H quiet false
+  pub passing : allPass r area readings ≡ true
+  pub stays : openAtLast r area readings n ≡ true
+
+-- such ticks, over which quiet comes from below H to H
+pub record DueTicks (r : Record) (area readings : List ℕ) (n H quiet : ℕ) : Type 0 where
+  pub ticks : PacedTicks r area readings n H quiet
+  pub below : quiet < H
+  pub reaches : H ≤ quiet + ticksTime (r .device .reading) readings
+
+-- the take is not refused
+pub record ReadyTake (r : Record) (out : List ℕ) : Type 0 where
+  pub ready : Ready r
+  pub room : leastOutput ≤ length out
+
+-- each output has room
+abbrev pub Roomy : (ℕ → List ℕ) → Type 0
+Roomy outs = (k : ℕ) → leastOutput ≤ length (outs k)
+
 pub record HeartbeatSent : Type 0 where
   -- the tick at which quiet reaches H makes the connection due
-  pub due : (r : Record) (area : List ℕ) (reading n H quiet : ℕ) → Paced (r .device) n H quiet false → passes r area reading ≡ true → openAfter r area reading n ≡ true → H ≤ quiet + stepAt r reading → Paced (tickCall r area reading .state .device) n H 0 true
+  pub due : (r : Record) (area : List ℕ) (reading n H quiet : ℕ) → PacedTick r area reading n H quiet false
+      → H ≤ quiet + stepAt r reading → Paced (tickCall r area reading .state .device) n H 0 true
   -- no tick does so before: quiet is the quiet that was, and the step
-  pub counts : (r : Record) (area : List ℕ) (reading n H quiet : ℕ) → Paced (r .device) n H quiet false → passes r area reading ≡ true → openAfter r area reading n ≡ true → quiet + stepAt r reading < H → Paced (tickCall r area reading .state .device) n H (quiet + stepAt r reading) false
+  pub counts : (r : Record) (area : List ℕ) (reading n H quiet : ℕ) → PacedTick r area reading n H quiet false
+      → quiet + stepAt r reading < H → Paced (tickCall r area reading .state .device) n H (quiet + stepAt r reading) false
   -- once due, no tick that leaves it open ends that
-  pub staysDue : (r : Record) (area : List ℕ) (reading n H quiet : ℕ) → Paced (r .device) n H quiet true → passes r area reading ≡ true → openAfter r area reading n ≡ true → Paced (tickCall r area reading .state .device) n H quiet true
+  pub staysDue : (r : Record) (area : List ℕ) (reading n H quiet : ℕ) → PacedTick r area reading n H quiet true
+      → Paced (tickCall r area reading .state .device) n H quiet true
   -- tick after tick, the quiet is the sum of the steps as long as that is below H
-  pub many : (r : Record) (area readings : List ℕ) (n H quiet : ℕ) → Paced (r .device) n H quiet false → allPass r area readings ≡ true → openAtLast r area readings n ≡ true → quiet + ticksTime (r .device .reading) readings < H → Paced (ticksCall r area readings .0 .device) n H (quiet + ticksTime (r .device .reading) readings) false
+  pub many : (r : Record) (area readings : List ℕ) (n H quiet : ℕ) → PacedTicks r area readings n H quiet
+      → quiet + ticksTime (r .device .reading) readings < H
+      → Paced (ticksCall r area readings .0 .device) n H (quiet + ticksTime (r .device .reading) readings) false
   -- and once the sum has reached H, it is due
-  pub dueByThen : (r : Record) (area readings : List ℕ) (n H quiet : ℕ) → Paced (r .device) n H quiet false → quiet < H → allPass r area readings ≡ true → openAtLast r area readings n ≡ true → H ≤ quiet + ticksTime (r .device .reading) readings → Paced (ticksCall r area readings .0 .device) n H 0 true
+  pub dueByThen : (r : Record) (area readings : List ℕ) (n H quiet : ℕ) → DueTicks r area readings n H quiet
+      → Paced (ticksCall r area readings .0 .device) n H 0 true
   -- "Notifications and responses received do no more" than reset the silence: they clear neither quiet nor due
-  pub received : (r : Record) (area : List ℕ) (n : ℕ) (piece out : List ℕ) (t H quiet : ℕ) (due : Bool) → Paced (r .device) n H quiet due → decide (broughtBy r area n piece) ≡ Sound t → isUnanswered (take t (broughtBy r area n piece)) ≡ true → Paced (deliverCall r area n piece out .state .device) n H quiet due
+  pub received : (r : Record) (area : List ℕ) (n : ℕ) (piece out : List ℕ) (t H quiet : ℕ) (due : Bool)
+      → Paced (r .device) n H quiet due → decide (broughtBy r area n piece) ≡ Sound t
+      → isUnanswered (take t (broughtBy r area n piece)) ≡ true → Paced (deliverCall r area n piece out .state .device) n H quiet due
   -- where no entry waits, a take sends the lowest connection due its keep-alive
-  pub sends : (r : Record) (out : List ℕ) (n H quiet : ℕ) → Ready r → leastOutput ≤ length out → Paced (r .device) n H quiet true → any isWaiting (r .device .subscriptions) ≡ false → lowestDue (r .device .connections) ≡ n → Reminds r out n H
+  pub sends : (r : Record) (out : List ℕ) (n H quiet : ℕ) → ReadyTake r out → Paced (r .device) n H quiet true
+      → any isWaiting (r .device .subscriptions) ≡ false → lowestDue (r .device .connections) ≡ n → Reminds r out n H
   -- where an entry waits or a connection is due, a take sends something
-  pub something : (r : Record) (out : List ℕ) → Ready r → leastOutput ≤ length out → somethingWaits (r .device) ≡ true → (n : ℕ) × SendsTo r out n
+  pub something : (r : Record) (out : List ℕ) → ReadyTake r out → somethingWaits (r .device) ≡ true → (n : ℕ) × SendsTo r out n
   -- so that fewer wait after it, of at most 40
-  pub fewer : (r : Record) (out : List ℕ) → Ready r → leastOutput ≤ length out → somethingWaits (r .device) ≡ true → waitingIn (takeCall r out .state .device) < waitingIn (r .device)
+  pub fewer : (r : Record) (out : List ℕ) → ReadyTake r out → somethingWaits (r .device) ≡ true
+      → waitingIn (takeCall r out .state .device) < waitingIn (r .device)
   pub most : (r : Record) → Ready r → waitingIn (r .device) ≤ mostWaiting
   -- so a connection due is sent something by one of that many takes
-  pub reached : (r : Record) (outs : ℕ → List ℕ) (n : ℕ) → Ready r → ((k : ℕ) → leastOutput ≤ length (outs k)) → getD (r .device .connections) n closed .due ≡ true → (j : ℕ) × ((j < waitingIn (r .device)) × SendsTo (takesCall r outs j) (outs j) n)
-  -- together: a connection that stays open over ticks, with no other call between, until its quiet has reached H is sent something by one of the next 40 takes
-  pub heard : (r : Record) (area readings : List ℕ) (n H quiet : ℕ) (outs : ℕ → List ℕ) → Kept r area → length (r .device .subscriptions) ≡ entryCount → Paced (r .device) n H quiet false → quiet < H → allPass r area readings ≡ true → openAtLast r area readings n ≡ true → H ≤ quiet + ticksTime (r .device .reading) readings → ((k : ℕ) → leastOutput ≤ length (outs k)) → (j : ℕ) × ((j < mostWaiting) × SendsTo (takesCall (ticksCall r area readings .0) outs j) (outs j) n)
+  pub reached : (r : Record) (outs : ℕ → List ℕ) (n : ℕ) → Ready r → Roomy outs
+      → getD (r .device .connections) n closed .due ≡ true → SentWithin r outs n (waitingIn (r .device))
+  -- together: a connection that stays open over ticks, with no other call between, until its quiet has reached H is sent something by
+  -- one of the next 40 takes
+  pub heard : (r : Record) (area readings : List ℕ) (n H quiet : ℕ) (outs : ℕ → List ℕ) → Kept r area
+      → length (r .device .subscriptions) ≡ entryCount → DueTicks r area readings n H quiet → Roomy outs
+      → SentWithin (ticksCall r area readings .0) outs n mostWaiting

@@ -8,13 +8,16 @@ use lib.ListN.{length}
 use Rattle.octets.specs.Numbers.{Octets}
 use Rattle.octets.specs.Zeros.{zeros}
 use Rattle.area.specs.Area.{areaBytes, areaSound}
-use Rattle.stream.specs.Machine.{Call}
 use Rattle.stream.specs.Promise.{Bytes}
 use Rattle.endpoint.specs.State.{freshState, recordObeys}
-use Rattle.endpoint.specs.Outcome.{Outcome}
 use Rattle.endpoint.specs.Calls.{clearedArea}
 use Rattle.endpoint.specs.declared.Record.{Record}
-use Rattle.promise.specs.Rulebook.{Ask, callOf}
+use Rattle.promise.specs.Calls.{HostCall, callOf}
+
+-- a record and an area that rows 1 and 2 let pass
+pub record Accepted (r : Record) (area : List ℕ) : Type 0 where
+  pub obeys : recordObeys r ≡ true
+  pub sound : areaSound (r .held) area ≡ true
 
 -- rows 1 and 2 do not apply; the arrays have their lengths, and the area is made of bytes
 pub record Kept (r : Record) (area : List ℕ) : Type 0 where
@@ -27,4 +30,5 @@ pub record Kept (r : Record) (area : List ℕ) : Type 0 where
 pub record CallsKeep : Type 0 where
   pub fresh : (reading : ℕ) → Kept (freshState reading) (zeros areaBytes)
   pub clearing : (area : List ℕ) → length area ≡ areaBytes → clearedArea area ≡ zeros areaBytes
-  pub calling : (r : Record) (area : List ℕ) (c : Call Ask (List ℕ)) → Bytes c → Kept r area → Kept (callOf r area c .state) (callOf r area c .area)
+  pub calling : (r : Record) (area : List ℕ) (c : HostCall) → Bytes c → Kept r area
+      → Kept (callOf r area c .state) (callOf r area c .area)

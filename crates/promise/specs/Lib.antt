@@ -1,10 +1,11 @@
 pub mod Rulebook
+pub mod Calls
 pub mod Kept
 pub mod Stream
 pub mod Examples
 pub mod Technician
 pub mod Closure
 pub mod Heartbeats
-pub mod Key
+pub mod ResetKey
 pub mod Reset
 pub mod ResetExamples

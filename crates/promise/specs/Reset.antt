@@ -5,6 +5,7 @@ use mathlib.Core.Bool.{Bool, true, false, not, _&&_, _||_}
 use mathlib.Core.List.{List, [], _∷_, _++_}
 use lib.Dec.{eqb, ltb}
 use lib.ListN.{length, getD, take, drop}
+use Rattle.numbers.specs.Status.{heldByOther, carriedOut}
 use Rattle.octets.specs.Zeros.{zeros}
 use Rattle.frame.specs.Limits.{headerEnd, notification}
 use Rattle.frame.specs.Header.{pduType, messageCount}
@@ -24,57 +25,54 @@ use Rattle.objects.specs.Methods.{methodNumber, lockMethod}
 use Rattle.device.specs.State.{muteCount, freshOf}
 use Rattle.device.specs.Run as commands
 use Rattle.device.specs.declared.Device.{Device}
-use Rattle.stream.specs.Machine.{Call, ask, handed, asked, Held, none-held, step, glue}
+use Rattle.stream.specs.Machine.{ask, handed, asked, Held, none-held, step, glue}
 use Rattle.stream.specs.Promise.{AllBytes}
 use Rattle.endpoint.specs.State.{freshState, recordObeys}
 use Rattle.numbers.specs.Refusal.{badRecord, badArea}
 use Rattle.endpoint.specs.Outcome.{outcome, refused}
 use Rattle.reset.specs.Datagram.{restarted, datagramCall}
 use Rattle.endpoint.specs.declared.Record.{Record}
-use Rattle.promise.specs.Rulebook.{Ask, datagram, Asked, rule, open?, admit, shut}
+use Rattle.promise.specs.Rulebook.{datagram, Asked, rule, open?, admit, shut}
+use Rattle.promise.specs.Calls.{HostCall}
+use Rattle.promise.specs.Kept.{Accepted}
 use Rattle.promise.specs.Stream.{runCalls, machine}
 use Rattle.promise.specs.Technician.{lockStatus}
 
 -- what a datagram needs to reset: a record and an area that rows 1 and 2 let pass, a mechanism that is armed, the sentinel and its key
 pub record Matches (r : Record) (area g : List ℕ) : Type 0 where
-  pub obeys : recordObeys r ≡ true
-  pub sound : areaSound (r .held) area ≡ true
+  pub accepted : Accepted r area
   pub armed : r .device .mechanism .armed ≡ true
   pub bytes : g ≡ sentinel ++ r .device .mechanism .key
 
--- the answer to a reset
-abbrev pub aReset : List ℕ
-aReset = 0 ∷ 1 ∷ []
+-- the datagram is answered by a reset
+abbrev pub Resets : Record → List ℕ → List ℕ → Type 0
+Resets r area g = datagramCall r area g .answer ≡ 0 ∷ 1 ∷ []
 
 pub record ResetByKey : Type 0 where
   -- "resets if the mechanism is armed and the key matches", and exactly then
-  pub resets : (r : Record) (area g : List ℕ) → Matches r area g → datagramCall r area g .answer ≡ aReset
-  pub only : (r : Record) (area g : List ℕ) → datagramCall r area g .answer ≡ aReset → Matches r area g
+  pub resets : (r : Record) (area g : List ℕ) → Matches r area g → Resets r area g
+  pub only : (r : Record) (area g : List ℕ) → Resets r area g → Matches r area g
   -- "A datagram of exactly 24 bytes"
-  pub long : (r : Record) (area g : List ℕ) → length (r .device .mechanism .key) ≡ keyBytes → datagramCall r area g .answer ≡ aReset
-      → length g ≡ 24
+  pub long : (r : Record) (area g : List ℕ) → length (r .device .mechanism .key) ≡ keyBytes → Resets r area g → length g ≡ 24
   -- "After the reset the record is a fresh one at the last reading, the area zero and the mechanism disarmed"
-  pub leaves : (r : Record) (area g : List ℕ) → datagramCall r area g .answer ≡ aReset
+  pub leaves : (r : Record) (area g : List ℕ) → Resets r area g
       → (datagramCall r area g .state ≡ freshState (r .device .reading)) × (datagramCall r area g .area ≡ zeros areaBytes)
   pub disarms : (reading : ℕ) → freshState reading .device .mechanism ≡ disarmed
   -- the same datagram again does nothing
-  pub once : (reading : ℕ) (area g : List ℕ) → (datagramCall (freshState reading) area g .answer ≡ aReset → ⊥)
+  pub once : (reading : ℕ) (area g : List ℕ) → ¬ Resets (freshState reading) area g
   -- "any other changes nothing"
-  pub otherwise : (r : Record) (area g : List ℕ) → (datagramCall r area g .answer ≡ aReset → ⊥)
+  pub otherwise : (r : Record) (area g : List ℕ) → ¬ Resets r area g
       → (datagramCall r area g .state ≡ r) × (datagramCall r area g .area ≡ area)
   -- "the datagram call gives 1 and 2 alone"
   pub refusedRecord : (r : Record) (area g : List ℕ) → recordObeys r ≡ false → datagramCall r area g ≡ refused badRecord r area []
   pub refusedArea : (r : Record) (area g : List ℕ) → recordObeys r ≡ true → areaSound (r .held) area ≡ false
       → datagramCall r area g ≡ refused badArea r area []
-  pub nothing : (r : Record) (area g : List ℕ) → recordObeys r ≡ true → areaSound (r .held) area ≡ true
-      → (datagramCall r area g .answer ≡ aReset → ⊥) → datagramCall r area g ≡ outcome (0 ∷ 0 ∷ []) r area []
+  pub nothing : (r : Record) (area g : List ℕ) → Accepted r area → ¬ Resets r area g
+      → datagramCall r area g ≡ outcome (0 ∷ 0 ∷ []) r area []
   -- "demand 3 counts anew from there": what follows a reset is what follows a fresh record and a zeroed area
-  pub anew : (r : Record) (area g : List ℕ) (cs : List (Call Ask (List ℕ))) → datagramCall r area g .answer ≡ aReset
-      → runCalls r area (ask (datagram g) ∷ cs)
-      ≡ (
-        runCalls (freshState (r .device .reading)) (zeros areaBytes) cs .0,
-        restarted r ∷ runCalls (freshState (r .device .reading)) (zeros areaBytes) cs .1,
-      )
+  pub anew : (r : Record) (area g : List ℕ) (cs : List HostCall) → Resets r area g
+      → let fresh = runCalls (freshState (r .device .reading)) (zeros areaBytes) cs in
+      runCalls r area (ask (datagram g) ∷ cs) ≡ (fresh .0, restarted r ∷ fresh .1)
   -- over whole messages too: no undecided byte is held, and no connection is open
   pub nobody : (d : Device) (h : Held) (g : List ℕ) → mechanism.resets (d .mechanism) g ≡ true
       → step rule open? admit d h (ask (datagram g)) .0 ≡ (freshOf (d .reading), none-held)
@@ -108,15 +106,15 @@ nobodyAsks at (w ∷ ws) = not (asksFor at w) && nobodyAsks at ws
 -- "can he restart a rack from his chair?": after a reset
 pub record RackFreeAgain : Type 0 where
   -- no channel is held, and whoever then asks for a channel's lock gets it
-  pub unheld : (r : Record) (area g : List ℕ) → datagramCall r area g .answer ≡ aReset → (at : ℕ)
+  pub unheld : (r : Record) (area g : List ℕ) → Resets r area g → (at : ℕ)
       → getD (datagramCall r area g .state .device .holders) at 0 ≡ 0
-  pub free : (r : Record) (area g : List ℕ) → datagramCall r area g .answer ≡ aReset → (k at : ℕ) → at < muteCount
-      → lockStatus (datagramCall r area g .state .device) k at ≡ 0
+  pub free : (r : Record) (area g : List ℕ) → Resets r area g → (k at : ℕ) → at < muteCount
+      → lockStatus (datagramCall r area g .state .device) k at ≡ carriedOut
   -- whatever calls come after it, as long as no message asks for a channel, the first to ask for it gets it
-  pub first : (r : Record) (area g : List ℕ) (cs : List (Call Ask (List ℕ))) → datagramCall r area g .answer ≡ aReset → AllBytes cs
-      → (k at : ℕ) → at < muteCount
+  pub first : (r : Record) (area g : List ℕ) (cs : List HostCall) → Resets r area g → AllBytes cs → (k at : ℕ) → at < muteCount
       → nobodyAsks at (glue shut none-held (machine (freshOf (r .device .reading)) none-held cs .1) .0) ≡ true
-      → lockStatus (runCalls r area (ask (datagram g) ∷ cs) .0 .0 .device) k at ≡ 0
-  -- he then holds it, and another gets status 3
-  pub holds : (d : Device) (k j at : ℕ) → k < connectionCount → at < muteCount → length (d .holders) ≡ muteCount → lockStatus d k at ≡ 0
-      → eqb j k ≡ false → lockStatus (commands.runOf d k (firstMute + at) lockMethod 0 [] .device) j at ≡ 3
+      → lockStatus (runCalls r area (ask (datagram g) ∷ cs) .0 .0 .device) k at ≡ carriedOut
+  -- he then holds it, and another's lock of it is refused as held by another
+  pub holds : (d : Device) (k j at : ℕ) → k < connectionCount → at < muteCount → length (d .holders) ≡ muteCount
+      → lockStatus d k at ≡ carriedOut → eqb j k ≡ false
+      → lockStatus (commands.runOf d k (firstMute + at) lockMethod 0 [] .device) j at ≡ heldByOther

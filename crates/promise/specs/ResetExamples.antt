@@ -9,7 +9,7 @@ use Rattle.layout.specs.Message as layouts
 use Rattle.mechanism.specs.Datagram.{sentinel}
 use Rattle.objects.specs.Methods.{deviceManager, subscriptionManager}
 use Rattle.device.specs.declared.Device.{Device}
-use Rattle.stream.specs.Machine.{handed, asked}
+use Rattle.stream.specs.Machine.{asked}
 use Rattle.promise.specs.Rulebook.{opening, closing, datagram, rule}
 use Rattle.promise.specs.Examples.{Row, row, twoOpen, afterMessage, replyTo}
 

@@ -1,4 +1,4 @@
--- Document 01's rules over whole messages, document 02's datagrams among them, and the endpoint's calls as one function.
+-- Document 01's rules over whole messages, document 02's datagrams among them.
 use Prim.Native.Nat.{ℕ, zero, suc, _/_, _%_}
 use mathlib.Core.Path.{_≡_}
 use mathlib.Core.Bool.{Bool, cond, true, false}
@@ -20,17 +20,12 @@ use Rattle.device.specs.declared.Opening.{Opening}
 use Rattle.device.specs.declared.Opening.the-variants as opens
 use Rattle.device.specs.declared.Ticking.{Ticking}
 use Rattle.device.specs.declared.Ticking.the-variants as ticks
-use Rattle.serve.specs.Sound.{Ruled, soundOf}
-use Rattle.stream.specs.Machine.{Call, deliver, ask, Whole, handed, asked, Answer, more, denied, gave, Held}
-use Rattle.stream.specs.Lent.{flat, countsOf}
+use Rattle.serve.specs.Sound.{soundOf}
+use Rattle.stream.specs.Machine.{Whole, handed, asked}
 use Rattle.endpoint.specs.State.{stateOf}
 use Rattle.numbers.specs.Refusal.{noConnection, noRoom, tableFull, clockBack, overrun}
-use Rattle.endpoint.specs.Outcome.{Outcome, outcome}
-use Rattle.endpoint.specs.Calls.{openCall, closeCall, tickCall}
-use Rattle.endpoint.specs.Deliver.{leastOutput, deliverCall}
-use Rattle.endpoint.specs.Take.{takenBy, takeCall}
-use Rattle.reset.specs.Datagram.{datagramCall}
-use Rattle.endpoint.specs.declared.Record.{Record}
+use Rattle.endpoint.specs.Deliver.{leastOutput}
+use Rattle.endpoint.specs.Take.{takenBy}
 
 -- the calls that are no delivery
 pub data Ask : Type 0 where
@@ -118,27 +113,3 @@ shut (asked (datagram g)) o n = eqb (getD (o .answer) 1 0) 1
 pub record Fine (d : Device) : Type 0 where
   pub obeys : deviceObeys d ≡ true
   pub eight : length (d .connections) ≡ 8
-
--- ---- the endpoint's calls, by their definitions
-
-unfoldable pub callOf : Record → List ℕ → Call Ask (List ℕ) → Outcome
-callOf r area (deliver n piece out) = deliverCall r area n piece out
-callOf r area (ask opening) = outcome (openCall r .answer) (openCall r .state) area []
-callOf r area (ask (closing n)) = closeCall r area n
-callOf r area (ask (ticking reading)) = tickCall r area reading
-callOf r area (ask (taking out)) = outcome (takeCall r out .answer) (takeCall r out .state) area (takeCall r out .output)
-callOf r area (ask (datagram g)) = datagramCall r area g
-
--- the numbers of a delivery that decided: 0, the kind, the bytes taken, the value
-unfoldable pub withTaken : ℕ → List ℕ → List ℕ
-withTaken k [] = []
-withTaken k (x ∷ rest) = 0 ∷ x ∷ k ∷ rest
-
--- what a call is to give, where the machine over pieces comes to device d with h held and that answer
-unfoldable pub outcomeOf : Call Ask (List ℕ) → Device → Held → Answer Given → Outcome
-outcomeOf (deliver n piece out) d h more = outcome (0 ∷ 1 ∷ length piece ∷ []) (stateOf d (countsOf h 8)) (flat h 8) out
-outcomeOf (deliver n piece out) d h (denied q) = outcome (q ∷ []) (stateOf d (countsOf h 8)) (flat h 8) out
-outcomeOf (deliver n piece out) d h (gave k o) = outcome (withTaken k (o .answer)) (stateOf d (countsOf h 8)) (flat h 8) (o .output)
-outcomeOf (ask a) d h more = outcome [] (stateOf d (countsOf h 8)) (flat h 8) []
-outcomeOf (ask a) d h (denied q) = outcome (q ∷ []) (stateOf d (countsOf h 8)) (flat h 8) []
-outcomeOf (ask a) d h (gave k o) = outcome (o .answer) (stateOf d (countsOf h 8)) (flat h 8) (o .output)

@@ -3,29 +3,28 @@
 -- over whole at the place of its deciding byte; only undecided bytes remain besides". Document 02 (ii)'s datagrams are among the calls.
 use Prim.Native.Nat.{ℕ}
 use mathlib.Core.Path.{_≡_}
-use mathlib.Core.Bool.{Bool, true, false}
+use mathlib.Core.Bool.{true, false}
 use mathlib.Core.Logic.{_≢_}
 use mathlib.Core.List.{List, [], _∷_, _++_}
-use lib.ListN.{length}
 use Rattle.octets.specs.Zeros.{zeros}
 use Rattle.frame.specs.Decide.{decide, settled}
 use Rattle.area.specs.Area.{areaBytes}
 use Rattle.device.specs.State.{freshOf}
 use Rattle.device.specs.declared.Device.{Device}
-use Rattle.stream.specs.Machine.{Call, deliver, ask, Whole, Answer, Held, none-held, run, step}
-use Rattle.stream.specs.Promise.{Bytes, AllBytes, Good, Streamed}
-use Rattle.stream.specs.Lent.{flat, countsOf}
+use Rattle.stream.specs.Machine.{deliver, ask, Answer, Held, none-held, run, step}
+use Rattle.stream.specs.Promise.{AllBytes, Good, Streamed}
 use Rattle.stream.specs.Cut.{drips, comesTo}
-use Rattle.endpoint.specs.State.{stateOf, freshState}
+use Rattle.endpoint.specs.State.{freshState}
 use Rattle.endpoint.specs.Outcome.{Outcome}
 use Rattle.endpoint.specs.Deliver.{leastOutput}
 use Rattle.endpoint.specs.declared.Record.{Record}
-use Rattle.promise.specs.Rulebook.{Ask, Given, rule, open?, admit, shut, Fine, callOf, outcomeOf}
+use Rattle.promise.specs.Rulebook.{Given, rule, open?, admit, shut, Fine}
+use Rattle.promise.specs.Calls.{HostCall, callOf, recordWith, areaWith, outcomeOf}
 use Rattle.promise.specs.Kept.{Kept}
 
 -- a list of calls, by the definitions that the contracts of the real calls cite, each state passed on as handed back:
 -- the last record and area, and what each call gave
-unfoldable pub runCalls : Record → List ℕ → List (Call Ask (List ℕ)) → (Record × List ℕ) × List Outcome
+unfoldable pub runCalls : Record → List ℕ → List HostCall → (Record × List ℕ) × List Outcome
 runCalls r area [] = ((r, area), [])
 runCalls r area (c ∷ cs) =
     let o = callOf r area c in
@@ -33,48 +32,55 @@ runCalls r area (c ∷ cs) =
     (t .0, o ∷ t .1)
 
 -- what each call is to give: the machine over pieces, whose device is the rules' and whose bytes are the undecided ones
-unfoldable pub gives : Device → Held → List (Call Ask (List ℕ)) → List Outcome
+unfoldable pub gives : Device → Held → List HostCall → List Outcome
 gives d h [] = []
 gives d h (c ∷ cs) =
     let s = step rule open? admit d h c in
     outcomeOf c (s .0 .0) (s .0 .1) (s .1) ∷ gives (s .0 .0) (s .0 .1) cs
 
-abbrev pub machine : Device → Held → List (Call Ask (List ℕ)) → (Device × Held) × List (Call Ask (List ℕ) × Answer Given)
+abbrev pub machine : Device → Held → List HostCall → (Device × Held) × List (HostCall × Answer Given)
 machine d h cs = run rule open? admit d h cs
 
 -- device d with h held keeps the rules, and its undecided bytes wait
 abbrev pub GoodState : Device → Held → Type 0
 GoodState d h = Good rule open? admit shut Fine d h
 
+-- the record and the area are those of a device with some bytes held
+pub record DeviceWithBytes (r : Record) (area : List ℕ) : Type 0 where
+  pub held : Held
+  pub good : GoodState (r .device) held
+  pub state : r ≡ recordWith (r .device) held
+  pub bytes : area ≡ areaWith held
+
 pub record StreamTheorem : Type 0 where
   -- a fresh record and a zeroed area are device freshOf with nothing held
   pub fresh : (reading : ℕ) → GoodState (freshOf reading) none-held
-  pub freshState : (reading : ℕ) → freshState reading ≡ stateOf (freshOf reading) (countsOf none-held 8)
-  pub freshArea : zeros areaBytes ≡ flat none-held 8
+  pub freshState : (reading : ℕ) → freshState reading ≡ recordWith (freshOf reading) none-held
+  pub freshArea : zeros areaBytes ≡ areaWith none-held
   -- every record and area to which rows 1 and 2 do not apply is a device with some bytes held
-  pub any : (r : Record) (area : List ℕ) → Kept r area → (h : Held) × (GoodState (r .device) h × ((r ≡ stateOf (r .device) (countsOf h 8)) × (area ≡ flat h 8)))
+  pub any : (r : Record) (area : List ℕ) → Kept r area → DeviceWithBytes r area
   -- the real calls, from any such state, give what the machine over pieces gives, and end where it ends: the record's counts and
   -- the area are the undecided bytes and nothing else
-  pub real : (d : Device) (h : Held) (cs : List (Call Ask (List ℕ))) → GoodState d h → AllBytes cs
-      → runCalls (stateOf d (countsOf h 8)) (flat h 8) cs
-      ≡ ((stateOf (machine d h cs .0 .0) (countsOf (machine d h cs .0 .1) 8), flat (machine d h cs .0 .1) 8), gives d h cs)
+  pub real : (d : Device) (h : Held) (cs : List HostCall) → GoodState d h → AllBytes cs
+      → let end = machine d h cs .0 in
+      runCalls (recordWith d h) (areaWith h) cs ≡ ((recordWith (end .0) (end .1), areaWith (end .1)), gives d h cs)
   -- and the machine over pieces does what the rules do over whole messages, each at the place of its deciding byte
-  pub whole : (d : Device) (h : Held) (cs : List (Call Ask (List ℕ))) → GoodState d h → AllBytes cs
+  pub whole : (d : Device) (h : Held) (cs : List HostCall) → GoodState d h → AllBytes cs
       → Streamed rule open? admit shut Fine d h (machine d h cs .0) (machine d h cs .1)
 
 -- "the cutting does not matter": two runs that took the same bytes at the same places come to the same device, answers and bytes
 pub record CuttingDoesNotMatter : Type 0 where
-  pub recut : (d : Device) (h : Held) (cs ds : List (Call Ask (List ℕ))) → GoodState d h → AllBytes cs → AllBytes ds
+  pub recut : (d : Device) (h : Held) (cs ds : List HostCall) → GoodState d h → AllBytes cs → AllBytes ds
       → drips (zeros leastOutput) (machine d h cs .1) ≡ drips (zeros leastOutput) (machine d h ds .1)
       → comesTo rule open? admit d h cs ≡ comesTo rule open? admit d h ds
 
 -- a call that is not a delivery to connection c
-abbrev pub NotTo : ℕ → Call Ask (List ℕ) → Type 0
+abbrev pub NotTo : ℕ → HostCall → Type 0
 NotTo c (deliver d q x) = d ≢ c
 NotTo c (ask a) = Unit {0}
 
 -- "mixing does not matter": undecided bytes of one connection commute with calls on others
 pub record MixingDoesNotMatter : Type 0 where
-  pub swap : (d : Device) (h : Held) (c : ℕ) (p room : List ℕ) (x : Call Ask (List ℕ)) → admit d c room ≡ 0 → settled (decide (h c ++ p)) ≡ false
-      → NotTo c x → open? (step rule open? admit d h x .0 .0) c ≡ true
+  pub swap : (d : Device) (h : Held) (c : ℕ) (p room : List ℕ) (x : HostCall) → admit d c room ≡ 0
+      → settled (decide (h c ++ p)) ≡ false → NotTo c x → open? (step rule open? admit d h x .0 .0) c ≡ true
       → comesTo rule open? admit d h (deliver c p room ∷ x ∷ []) ≡ comesTo rule open? admit d h (x ∷ deliver c p room ∷ [])

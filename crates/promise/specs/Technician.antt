@@ -7,9 +7,10 @@ use mathlib.Core.Bool.{Bool, true, false, not, _&&_, _||_}
 use mathlib.Core.List.{List, [], _∷_, _++_}
 use lib.Dec.{eqb}
 use lib.ListN.{length, getD}
+use Rattle.numbers.specs.Status.{heldByOther, carriedOut}
 use Rattle.frame.specs.Decide.{decide, settled}
 use Rattle.frame.specs.declared.Decision.the-variants.{Undecided}
-use Rattle.area.specs.Area.{areaSound, undecidedOf}
+use Rattle.area.specs.Area.{undecidedOf}
 use Rattle.mechanism.specs.Datagram.{resets}
 use Rattle.connection.specs.State.{closed, liveAt}
 use Rattle.subscription.specs.State.{firstMute}
@@ -19,14 +20,15 @@ use Rattle.device.specs.Time.{stepOf}
 use Rattle.device.specs.Run.{runOf}
 use Rattle.device.specs.Closure.{Gone, Stays}
 use Rattle.device.specs.declared.Device.{Device}
-use Rattle.stream.specs.Machine.{Call, deliver, ask}
-use Rattle.endpoint.specs.State.{recordObeys}
-use Rattle.numbers.specs.Refusal.{clockBack}
+use Rattle.stream.specs.Machine.{deliver, ask}
 use Rattle.endpoint.specs.Outcome.{refused}
+use Rattle.numbers.specs.Refusal.{clockBack}
 use Rattle.endpoint.specs.Calls.{tickCall}
 use Rattle.endpoint.specs.Deliver.{heldAt, deliverCall}
 use Rattle.endpoint.specs.declared.Record.{Record}
-use Rattle.promise.specs.Rulebook.{Ask, opening, closing, ticking, taking, datagram, bitOf, callOf}
+use Rattle.promise.specs.Rulebook.{opening, closing, ticking, taking, datagram, bitOf}
+use Rattle.promise.specs.Calls.{HostCall, callOf}
+use Rattle.promise.specs.Kept.{Accepted}
 
 -- connection n of a device of eight is open, with heartbeat H above zero and that silence; that the device obeys the rules follows
 -- where a call is not refused
@@ -69,7 +71,7 @@ lockStatus d k at = runOf d k (firstMute + at) lockMethod 0 [] .answer .status
 
 -- by this call connection n neither says a whole message nor is closed by the host: a tick that is not refused, bytes of its own that
 -- decide nothing, another's bytes or close, an opening, a taking, a datagram that does not reset
-unfoldable pub isSilent : ℕ → Record → List ℕ → Call Ask (List ℕ) → Bool
+unfoldable pub isSilent : ℕ → Record → List ℕ → HostCall → Bool
 isSilent n r area (deliver k piece out) = not (eqb k n) || not (settled (decide (undecidedOf area k (heldAt r k) ++ piece)))
 isSilent n r area (ask opening) = true
 isSilent n r area (ask (closing k)) = not (eqb k n)
@@ -78,16 +80,16 @@ isSilent n r area (ask (taking out)) = true
 isSilent n r area (ask (datagram g)) = not (resets (r .device .mechanism) g)
 
 -- the record and the area after these calls, and that connection n is silent in all of them
-unfoldable pub callsOf : Record → List ℕ → List (Call Ask (List ℕ)) → Record × List ℕ
+unfoldable pub callsOf : Record → List ℕ → List HostCall → Record × List ℕ
 callsOf r area [] = (r, area)
 callsOf r area (c ∷ rest) = callsOf (callOf r area c .state) (callOf r area c .area) rest
 
-unfoldable pub allSilent : ℕ → Record → List ℕ → List (Call Ask (List ℕ)) → Bool
+unfoldable pub allSilent : ℕ → Record → List ℕ → List HostCall → Bool
 allSilent n r area [] = true
 allSilent n r area (c ∷ rest) = isSilent n r area c && allSilent n (callOf r area c .state) (callOf r area c .area) rest
 
 -- "Only a tick brings time": the reading after a call, the step of a call, and the sum of the steps from a last reading on
-unfoldable pub readingBy : ℕ → Call Ask (List ℕ) → ℕ
+unfoldable pub readingBy : ℕ → HostCall → ℕ
 readingBy last (deliver k piece out) = last
 readingBy last (ask opening) = last
 readingBy last (ask (closing k)) = last
@@ -95,7 +97,7 @@ readingBy last (ask (ticking reading)) = reading
 readingBy last (ask (taking out)) = last
 readingBy last (ask (datagram g)) = last
 
-unfoldable pub stepBy : ℕ → Call Ask (List ℕ) → ℕ
+unfoldable pub stepBy : ℕ → HostCall → ℕ
 stepBy last (deliver k piece out) = 0
 stepBy last (ask opening) = 0
 stepBy last (ask (closing k)) = 0
@@ -103,39 +105,89 @@ stepBy last (ask (ticking reading)) = stepOf reading last
 stepBy last (ask (taking out)) = 0
 stepBy last (ask (datagram g)) = 0
 
-unfoldable pub timeOf : ℕ → List (Call Ask (List ℕ)) → ℕ
+unfoldable pub timeOf : ℕ → List HostCall → ℕ
 timeOf last [] = 0
 timeOf last (c ∷ rest) = stepBy last c + timeOf (readingBy last c) rest
+
+-- these calls, and a tick behind them
+abbrev pub thenTick : List HostCall → ℕ → List HostCall
+thenTick calls reading = calls ++ (ask (ticking reading) ∷ [])
+
+-- ---- what is supposed
+
+-- the tick is not refused, and connection n is watched with that silence
+pub record WatchedTick (r : Record) (area : List ℕ) (reading n H silence : ℕ) : Type 0 where
+  pub watched : Watched (r .device) n H silence
+  pub passing : passes r area reading ≡ true
+
+-- such a tick, at which the silence reaches three heartbeats
+pub record OverdueTick (r : Record) (area : List ℕ) (reading n H silence : ℕ) : Type 0 where
+  pub tick : WatchedTick r area reading n H silence
+  pub reaches : 3 * H ≤ silence + stepAt r reading
+
+-- connection n is watched and silent in all these calls, and its silence stays below three heartbeats
+pub record SilentCalls (r : Record) (area : List ℕ) (calls : List HostCall) (n H silence : ℕ) : Type 0 where
+  pub watched : Watched (r .device) n H silence
+  pub silent : allSilent n r area calls ≡ true
+  pub below : silence + timeOf (r .device .reading) calls < 3 * H
+
+-- connection n is watched and silent in these calls and a tick, the first at which its silence reaches three heartbeats
+pub record OverdueCalls (r : Record) (area : List ℕ) (calls : List HostCall) (reading n H silence : ℕ) : Type 0 where
+  pub watched : Watched (r .device) n H silence
+  pub silent : allSilent n r area (thenTick calls reading) ≡ true
+  pub below : silence + timeOf (r .device .reading) calls < 3 * H
+  pub reaches : 3 * H ≤ silence + timeOf (r .device .reading) (thenTick calls reading)
+
+-- connection n holds the lock of the mute at that place
+pub record HoldsLock (d : Device) (n at : ℕ) : Type 0 where
+  pub place : at < muteCount
+  pub holder : getD (d .holders) at 0 ≡ n + 1
 
 -- ---- with numbers
 
 -- with heartbeat H a silence of that last number stays open, and the next one closes
 pub record Exactly (H last next : ℕ) : Type 0 where
-  pub stays : (r : Record) (area : List ℕ) (reading n silence : ℕ) → Watched (r .device) n H silence → passes r area reading ≡ true → silence + stepAt r reading ≡ last → Leaves r area reading n H last
-  pub closes : (r : Record) (area : List ℕ) (reading n silence : ℕ) → Watched (r .device) n H silence → passes r area reading ≡ true → silence + stepAt r reading ≡ next → Closes r area reading n
+  pub stays : (r : Record) (area : List ℕ) (reading n silence : ℕ) → WatchedTick r area reading n H silence
+      → silence + stepAt r reading ≡ last → Leaves r area reading n H last
+  pub closes : (r : Record) (area : List ℕ) (reading n silence : ℕ) → WatchedTick r area reading n H silence
+      → silence + stepAt r reading ≡ next → Closes r area reading n
 
 pub record TechnicianLetIn : Type 0 where
   -- the tick at which the silence reaches three heartbeats closes the tablet's connection
-  pub closes : (r : Record) (area : List ℕ) (reading n H silence : ℕ) → Watched (r .device) n H silence → passes r area reading ≡ true → 3 * H ≤ silence + stepAt r reading → Closes r area reading n
+  pub closes : (r : Record) (area : List ℕ) (reading n H silence : ℕ) → OverdueTick r area reading n H silence
+      → Closes r area reading n
   -- and whoever then asks first for a lock that the tablet held gets it
-  pub letIn : (r : Record) (area : List ℕ) (reading n H silence : ℕ) → Watched (r .device) n H silence → passes r area reading ≡ true → 3 * H ≤ silence + stepAt r reading → (k at : ℕ) → at < muteCount → getD (r .device .holders) at 0 ≡ n + 1 → lockStatus (tickCall r area reading .state .device) k at ≡ 0
+  pub letIn : (r : Record) (area : List ℕ) (reading n H silence : ℕ) → OverdueTick r area reading n H silence
+      → (k at : ℕ) → HoldsLock (r .device) n at → lockStatus (tickCall r area reading .state .device) k at ≡ carriedOut
   -- no tick closes it before: the silence is the silence that was, and the step
-  pub never : (r : Record) (area : List ℕ) (reading n H silence : ℕ) → Watched (r .device) n H silence → passes r area reading ≡ true → silence + stepAt r reading < 3 * H → Leaves r area reading n H (silence + stepAt r reading)
+  pub never : (r : Record) (area : List ℕ) (reading n H silence : ℕ) → WatchedTick r area reading n H silence
+      → silence + stepAt r reading < 3 * H → Leaves r area reading n H (silence + stepAt r reading)
   -- a tablet that set no heartbeat, or heartbeat zero, is closed by no tick, and no tick takes its locks
-  pub unwatched : (r : Record) (area : List ℕ) (reading : ℕ) → passes r area reading ≡ true → (n : ℕ) → liveAt (r .device .connections) n ≡ true → getD (r .device .connections) n closed .beat ≡ 0 → Stays n (r .device) (tickCall r area reading .state .device)
+  pub unwatched : (r : Record) (area : List ℕ) (reading : ℕ) → passes r area reading ≡ true
+      → (n : ℕ) → liveAt (r .device .connections) n ≡ true → getD (r .device .connections) n closed .beat ≡ 0
+      → Stays n (r .device) (tickCall r area reading .state .device)
   -- call after call, whatever others do short of a reset, the silence is the sum of the steps as long as that is below three heartbeats
-  pub many : (r : Record) (area : List ℕ) (calls : List (Call Ask (List ℕ))) (n H silence : ℕ) → Watched (r .device) n H silence → allSilent n r area calls ≡ true → silence + timeOf (r .device .reading) calls < 3 * H → Watched (callsOf r area calls .0 .device) n H (silence + timeOf (r .device .reading) calls)
-  -- all that while what the tablet held it holds, and another's lock of it gets status 3
-  pub lockedOut : (r : Record) (area : List ℕ) (calls : List (Call Ask (List ℕ))) (n H silence : ℕ) → Watched (r .device) n H silence → allSilent n r area calls ≡ true → silence + timeOf (r .device .reading) calls < 3 * H → (k at : ℕ) → eqb k n ≡ false → at < muteCount → getD (r .device .holders) at 0 ≡ n + 1 → lockStatus (callsOf r area calls .0 .device) k at ≡ 3
+  pub many : (r : Record) (area : List ℕ) (calls : List HostCall) (n H silence : ℕ) → SilentCalls r area calls n H silence
+      → Watched (callsOf r area calls .0 .device) n H (silence + timeOf (r .device .reading) calls)
+  -- all that while what the tablet held it holds, and another's lock of it is refused as held by another
+  pub lockedOut : (r : Record) (area : List ℕ) (calls : List HostCall) (n H silence : ℕ) → SilentCalls r area calls n H silence
+      → (k at : ℕ) → eqb k n ≡ false → HoldsLock (r .device) n at
+      → lockStatus (callsOf r area calls .0 .device) k at ≡ heldByOther
   -- the first tick at which the sum reaches three heartbeats closes it
-  pub first : (r : Record) (area : List ℕ) (calls : List (Call Ask (List ℕ))) (reading n H silence : ℕ) → Watched (r .device) n H silence → allSilent n r area (calls ++ (ask (ticking reading) ∷ [])) ≡ true → silence + timeOf (r .device .reading) calls < 3 * H → 3 * H ≤ silence + timeOf (r .device .reading) (calls ++ (ask (ticking reading) ∷ [])) → Closes (callsOf r area calls .0) (callsOf r area calls .1) reading n
+  pub first : (r : Record) (area : List ℕ) (calls : List HostCall) (reading n H silence : ℕ)
+      → OverdueCalls r area calls reading n H silence → Closes (callsOf r area calls .0) (callsOf r area calls .1) reading n
   -- and lets the technician in
-  pub firstLetIn : (r : Record) (area : List ℕ) (calls : List (Call Ask (List ℕ))) (reading n H silence : ℕ) → Watched (r .device) n H silence → allSilent n r area (calls ++ (ask (ticking reading) ∷ [])) ≡ true → silence + timeOf (r .device .reading) calls < 3 * H → 3 * H ≤ silence + timeOf (r .device .reading) (calls ++ (ask (ticking reading) ∷ [])) → (k at : ℕ) → at < muteCount → getD (r .device .holders) at 0 ≡ n + 1 → lockStatus (callsOf r area (calls ++ (ask (ticking reading) ∷ [])) .0 .device) k at ≡ 0
+  pub firstLetIn : (r : Record) (area : List ℕ) (calls : List HostCall) (reading n H silence : ℕ)
+      → OverdueCalls r area calls reading n H silence → (k at : ℕ) → HoldsLock (r .device) n at
+      → lockStatus (callsOf r area (thenTick calls reading) .0 .device) k at ≡ carriedOut
   -- half a message changes neither silence nor lock: bytes that decide nothing leave the device as it is
-  pub halfMessage : (r : Record) (area : List ℕ) (n : ℕ) (piece out : List ℕ) → decide (undecidedOf area n (heldAt r n) ++ piece) ≡ Undecided → deliverCall r area n piece out .state .device ≡ r .device
+  pub halfMessage : (r : Record) (area : List ℕ) (n : ℕ) (piece out : List ℕ)
+      → decide (undecidedOf area n (heldAt r n) ++ piece) ≡ Undecided → deliverCall r area n piece out .state .device ≡ r .device
   -- a record and an area that rows 1 and 2 let pass: a step of 2^31 − 1 passes, and one of 2^31 is refused
-  pub passing : (r : Record) (area : List ℕ) (reading : ℕ) → recordObeys r ≡ true → areaSound (r .held) area ≡ true → stepAt r reading < 2 ^ 31 → passes r area reading ≡ true
-  pub refusing : (r : Record) (area : List ℕ) (reading : ℕ) → recordObeys r ≡ true → areaSound (r .held) area ≡ true → 2 ^ 31 ≤ stepAt r reading → tickCall r area reading ≡ refused clockBack r area []
+  pub passing : (r : Record) (area : List ℕ) (reading : ℕ) → Accepted r area → stepAt r reading < 2 ^ 31
+      → passes r area reading ≡ true
+  pub refusing : (r : Record) (area : List ℕ) (reading : ℕ) → Accepted r area → 2 ^ 31 ≤ stepAt r reading
+      → tickCall r area reading ≡ refused clockBack r area []
   -- a heartbeat of 30 s; of 2 s; the greatest in seconds; the greatest in milliseconds
   pub thirtySeconds : Exactly 30000 89999 90000
   pub twoSeconds : Exactly 2000 5999 6000

@@ -7,7 +7,7 @@ ghost use Rattle.promise.specs.Closure.{ClosureLeavesNothing};
 ghost use Rattle.promise.specs.Heartbeats.{HeartbeatSent};
 ghost use Rattle.promise.specs.Reset.{ResetByKey, RackFreeAgain};
 ghost use Rattle.promise.specs.ResetExamples.{ResetWorked};
-ghost use Rattle.promise.specs.Key.{LatestKeyCounts, KeyStaysInside};
+ghost use Rattle.promise.specs.ResetKey.{LatestKeyCounts, KeyStaysInside};
 
 // Every call keeps the record rules and the area, so refusals 1 and 2 never come in a run.
 pub fn calls_keep()

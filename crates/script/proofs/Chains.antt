@@ -1,6 +1,6 @@
 -- The chain from a script's calls to the rules over whole messages, and that every call can be written. Assumes nothing.
 use Prim.Native.Nat.{ℕ, zero, suc, _+_, _-_, _≤_, _<_}
-use mathlib.Core.Path.{_≡_, refl, sym, ap, _∙_}
+use mathlib.Core.Path.{_≡_, refl, ap, _∙_}
 use mathlib.Core.Bool.{Bool, cond, true, false}
 use mathlib.Core.List.{List, [], _∷_, _++_}
 use native.Mathlib.Omega.{arith}
@@ -11,17 +11,16 @@ use lib.Seq.{take-append-seam, drop-append-seam}
 use Rattle.octets.specs.Numbers.{be32At, bytes32, Octets}
 use Rattle.octets.proofs.Digits.{be32-bytes, octets-take, octets-drop}
 use Rattle.device.specs.declared.Device.{Device}
-use Rattle.stream.specs.Machine.{Call, deliver, ask, Held}
+use Rattle.stream.specs.Machine.{deliver, ask, Held}
 use Rattle.stream.specs.Promise.{Bytes, AllBytes}
-use Rattle.stream.specs.Lent.{flat, countsOf}
-use Rattle.endpoint.specs.State.{stateOf}
 use Rattle.endpoint.specs.declared.Record.{Record}
-use Rattle.promise.specs.Rulebook.{Ask, opening, closing, ticking, taking, datagram, callOf}
-use Rattle.promise.specs.Stream.{StreamTheorem, GoodState, machine, gives, runCalls}
-use Rattle.promise.proofs.Keeps.{stream-theorem}
-use Rattle.answers.specs.Numbers.{numbersOf}
+use Rattle.promise.specs.Rulebook.{opening, closing, ticking, taking, datagram}
+use Rattle.promise.specs.Calls.{HostCall, recordWith, areaWith, callOf}
+use Rattle.promise.specs.Stream.{GoodState, machine, gives}
+use Rattle.promise.proofs.Stream.{stream-theorem}
 use Rattle.script.specs.Script.{stage, outputAfter, sentBy, callBy, firstSize, callIn, behind, callsFrom, callsIn, lastOutput, lastAnswer, endOf, scriptOf}
-use Rattle.script.specs.Chain.{ScriptsRun}
+use Rattle.answers.specs.Numbers.{numbersOf}
+use Rattle.script.specs.Chain.{FirstIs, ScriptsRun}
 use Rattle.script.proofs.Stages.{is-sent, is-datagram, is-deliver}
 
 call-bytes : (s output : List ℕ) → Octets s → Bytes (callIn s output)
@@ -46,10 +45,10 @@ calls-bytes (suc k) r area s output o =
     go (ltb (length s) 6)
     (calls-bytes k (callOf r area c .state) (callOf r area c .area) (behind s) (outputAfter c (callOf r area c) output) (octets-drop (firstSize s) s o))
   where
-    c : Call Ask (List ℕ)
+    c : HostCall
     c = callIn s output
 
-    cs : List (Call Ask (List ℕ))
+    cs : List HostCall
     cs = callsFrom k (callOf r area c .state) (callOf r area c .area) (behind s) (outputAfter c (callOf r area c) output)
 
     go : (b : Bool) → AllBytes cs → AllBytes (cond b [] (c ∷ cs))
@@ -61,25 +60,26 @@ unfolding callsIn
 pieces-bytes r area s output o = calls-bytes (length s) r area s output o
 
 chained : (d : Device) (h : Held) (s output : List ℕ) → GoodState d h → Octets s
-    → let cs = callsIn (stateOf d (countsOf h 8)) (flat h 8) s output in
-    scriptOf (stateOf d (countsOf h 8)) (flat h 8) s output
-    ≡ stage (stateOf (machine d h cs .0 .0) (countsOf (machine d h cs .0 .1) 8)) (flat (machine d h cs .0 .1) 8)
-    (lastOutput output cs (gives d h cs)) (lastAnswer (numbersOf []) (gives d h cs))
+    → let cs = callsIn (recordWith d h) (areaWith h) s output in
+    let end = machine d h cs .0 in
+    scriptOf (recordWith d h) (areaWith h) s output
+    ≡ stage (recordWith (end .0) (end .1)) (areaWith (end .1)) (lastOutput output cs (gives d h cs))
+    (lastAnswer (numbersOf []) (gives d h cs))
 unfolding scriptOf endOf
 chained d h s output g o =
-    let r = stateOf d (countsOf h 8) in
-    let cs = callsIn r (flat h 8) s output in
-    rw (stream-theorem .real d h cs g (pieces-bytes r (flat h 8) s output o)) refl
+    let r = recordWith d h in
+    let cs = callsIn r (areaWith h) s output in
+    rw (stream-theorem .real d h cs g (pieces-bytes r (areaWith h) s output o)) refl
 
 value-read : (kind n value : ℕ) (more : List ℕ) → value < 4294967296 → be32At (kind ∷ n ∷ (bytes32 value ++ more)) 2 ≡ value
 unfolding be32At bytes32
 value-read kind n value more v = be32-bytes value v
 
 asked : (kind n value : ℕ) (more output : List ℕ) → kind ≤ 3 → value < 4294967296
-    → (callIn (kind ∷ n ∷ (bytes32 value ++ more)) output ≡ callBy kind n value [] output) × (behind (kind ∷ n ∷ (bytes32 value ++ more)) ≡ more)
+    → FirstIs (kind ∷ n ∷ (bytes32 value ++ more)) output (callBy kind n value [] output) more
 unfolding callIn behind firstSize bytes32
 asked kind n value more output k v =
-    (rw (le-leb kind 3 k, value-read kind n value more v) refl, rw (le-leb kind 3 k) refl)
+    record { call = rw (le-leb kind 3 k, value-read kind n value more v) refl; rest = rw (le-leb kind 3 k) refl }
 
 size-of : (kind n : ℕ) (piece more : List ℕ) → 3 < kind → length piece < 4294967296
     → firstSize (kind ∷ n ∷ (bytes32 (length piece) ++ (piece ++ more))) ≡ 6 + length piece
@@ -91,11 +91,13 @@ size-of kind n piece more k v =
     rw (lt-leb kind 3 k, le-ltb (length s) (6 + be32At s 2) f) (ap (λ (x : ℕ). 6 + x) w)
 
 sent : (kind n : ℕ) (piece more output : List ℕ) → 3 < kind → length piece < 4294967296
-    → (callIn (kind ∷ n ∷ (bytes32 (length piece) ++ (piece ++ more))) output ≡ sentBy kind n piece output)
-    × (behind (kind ∷ n ∷ (bytes32 (length piece) ++ (piece ++ more))) ≡ more)
+    → FirstIs (kind ∷ n ∷ (bytes32 (length piece) ++ (piece ++ more))) output (sentBy kind n piece output) more
 unfolding callIn behind bytes32
 sent kind n piece more output k v =
-    (rw (sized, less, take-append-seam piece more, is-sent kind n (be32At s 2) piece output k) refl, rw (sized, six) (drop-append-seam piece more))
+    record {
+      call = rw (sized, less, take-append-seam piece more, is-sent kind n (be32At s 2) piece output k) refl;
+      rest = rw (sized, six) (drop-append-seam piece more);
+    }
   where
     s : List ℕ
     s = kind ∷ n ∷ (bytes32 (length piece) ++ (piece ++ more))
@@ -110,18 +112,16 @@ sent kind n piece more output k v =
     six = omega arith
 
 a-datagram : (n : ℕ) (piece more output : List ℕ) → length piece < 4294967296
-    → (callIn (4 ∷ n ∷ (bytes32 (length piece) ++ (piece ++ more))) output ≡ ask (datagram piece))
-    × (behind (4 ∷ n ∷ (bytes32 (length piece) ++ (piece ++ more))) ≡ more)
+    → FirstIs (4 ∷ n ∷ (bytes32 (length piece) ++ (piece ++ more))) output (ask (datagram piece)) more
 a-datagram n piece more output v =
     let w = sent 4 n piece more output (omega arith) v in
-    (w .0 ∙ is-datagram 4 n piece output refl, w .1)
+    record { call = w .call ∙ is-datagram 4 n piece output refl; rest = w .rest }
 
 delivered : (kind n : ℕ) (piece more output : List ℕ) → 4 < kind → length piece < 4294967296
-    → (callIn (kind ∷ n ∷ (bytes32 (length piece) ++ (piece ++ more))) output ≡ deliver n piece output)
-    × (behind (kind ∷ n ∷ (bytes32 (length piece) ++ (piece ++ more))) ≡ more)
+    → FirstIs (kind ∷ n ∷ (bytes32 (length piece) ++ (piece ++ more))) output (deliver n piece output) more
 delivered kind n piece more output k v =
     let w = sent kind n piece more output (omega arith) v in
-    (w .0 ∙ is-deliver kind n piece output (omega arith), w .1)
+    record { call = w .call ∙ is-deliver kind n piece output (omega arith); rest = w .rest }
 
 pub scripts-run : ScriptsRun
 scripts-run = record { chain = chained; pieces = pieces-bytes; asks = asked; datagrams = a-datagram; deliveries = delivered }

@@ -1,25 +1,24 @@
 -- Laws of a script's calls and of the loop over them. Assumes nothing.
 use Prim.Native.Nat.{ℕ, zero, suc, _+_, _-_, _≤_, _<_}
 use mathlib.Core.Path.{_≡_, refl, sym, ap, _∙_}
-use mathlib.Core.Bool.{Bool, cond, true, false}
 use mathlib.Core.List.{List, [], _∷_}
 use native.Mathlib.Omega.{arith}
 use native.Mathlib.Nat.{not-suc-le-zero}
 use borrow.Author.Tests.{le-leb, lt-leb, lt-ltb, le-ltb, ne-eqb}
-use lib.Dec.{eqb, ltb, leb}
 use lib.ListN.{length, getD, take, drop, length-drop}
 use Rattle.octets.specs.Numbers.{be32At}
-use Rattle.stream.specs.Machine.{Call, deliver, ask}
-use Rattle.endpoint.specs.Outcome.{Outcome, outcome}
+use Rattle.stream.specs.Machine.{deliver, ask}
+use Rattle.endpoint.specs.Outcome.{outcome}
 use Rattle.endpoint.specs.Calls.{openCall, closeCall, tickCall}
 use Rattle.endpoint.specs.Deliver.{deliverCall}
 use Rattle.endpoint.specs.Take.{takeCall}
 use Rattle.reset.specs.Datagram.{datagramCall}
 use Rattle.endpoint.specs.declared.Record.{Record}
-use Rattle.promise.specs.Rulebook.{Ask, opening, closing, ticking, taking, datagram, callOf}
+use Rattle.promise.specs.Rulebook.{opening, closing, ticking, taking, datagram}
+use Rattle.promise.specs.Calls.{callOf}
 use Rattle.promise.specs.Stream.{runCalls}
+use Rattle.script.specs.Script.{Stage, stage, outputAfter, stageOf, sentBy, callBy, firstSize, callIn, behind, callsFrom, callsIn, lastOutput, lastAnswer, endOf, scriptOf}
 use Rattle.answers.specs.Numbers.{numbersWith, numbersOf}
-use Rattle.script.specs.Script.{Stage, stage, outputAfter, stageOf, sentBy, callBy, callHead, firstSize, callIn, behind, callsFrom, callsIn, lastOutput, lastAnswer, endOf, scriptOf}
 use Rattle.answers.specs.declared.Numbers.{Numbers}
 
 -- ---- each kind of call, from the outcome that its contract gives

@@ -7,32 +7,35 @@ use Rattle.octets.specs.Numbers.{bytes32, Octets}
 use Rattle.device.specs.declared.Device.{Device}
 use Rattle.stream.specs.Machine.{Held, deliver, ask}
 use Rattle.stream.specs.Promise.{AllBytes}
-use Rattle.stream.specs.Lent.{flat, countsOf}
-use Rattle.endpoint.specs.State.{stateOf}
 use Rattle.endpoint.specs.declared.Record.{Record}
 use Rattle.promise.specs.Rulebook.{datagram}
+use Rattle.promise.specs.Calls.{HostCall, recordWith, areaWith}
 use Rattle.promise.specs.Stream.{GoodState, machine, gives}
 use Rattle.answers.specs.Numbers.{numbersOf}
 use Rattle.script.specs.Script.{stage, callBy, callIn, behind, callsIn, lastOutput, lastAnswer, scriptOf}
+
+-- the first call of a script, lent this output, is c, and more lies behind it
+pub record FirstIs (s output : List ℕ) (c : HostCall) (more : List ℕ) : Type 0 where
+  pub call : callIn s output ≡ c
+  pub rest : behind s ≡ more
 
 pub record ScriptsRun : Type 0 where
   -- what the code leaves of a script, from a state that keeps the rules: the device of the rules over whole messages, the undecided
   -- bytes, and the last answer and output that the rules give
   pub chain : (d : Device) (h : Held) (s output : List ℕ) → GoodState d h → Octets s
-      → let cs = callsIn (stateOf d (countsOf h 8)) (flat h 8) s output in
-      scriptOf (stateOf d (countsOf h 8)) (flat h 8) s output
-      ≡ stage (stateOf (machine d h cs .0 .0) (countsOf (machine d h cs .0 .1) 8)) (flat (machine d h cs .0 .1) 8)
-      (lastOutput output cs (gives d h cs)) (lastAnswer (numbersOf []) (gives d h cs))
+      → let cs = callsIn (recordWith d h) (areaWith h) s output in
+      let end = machine d h cs .0 in
+      scriptOf (recordWith d h) (areaWith h) s output
+      ≡ stage (recordWith (end .0) (end .1)) (areaWith (end .1)) (lastOutput output cs (gives d h cs))
+      (lastAnswer (numbersOf []) (gives d h cs))
   -- those calls' pieces are bytes, so all that the stream theorem says of calls it says of them
   pub pieces : (r : Record) (area s output : List ℕ) → Octets s → AllBytes (callsIn r area s output)
   -- every call can be written: an opening, a closing, a reading or a taking in six bytes
   pub asks : (kind n value : ℕ) (more output : List ℕ) → kind ≤ 3 → value < 4294967296
-      → (callIn (kind ∷ n ∷ (bytes32 value ++ more)) output ≡ callBy kind n value [] output) × (behind (kind ∷ n ∷ (bytes32 value ++ more)) ≡ more)
+      → FirstIs (kind ∷ n ∷ (bytes32 value ++ more)) output (callBy kind n value [] output) more
   -- a datagram with its bytes behind them
   pub datagrams : (n : ℕ) (piece more output : List ℕ) → length piece < 4294967296
-      → (callIn (4 ∷ n ∷ (bytes32 (length piece) ++ (piece ++ more))) output ≡ ask (datagram piece))
-      × (behind (4 ∷ n ∷ (bytes32 (length piece) ++ (piece ++ more))) ≡ more)
+      → FirstIs (4 ∷ n ∷ (bytes32 (length piece) ++ (piece ++ more))) output (ask (datagram piece)) more
   -- and a delivery with its piece behind them
   pub deliveries : (kind n : ℕ) (piece more output : List ℕ) → 4 < kind → length piece < 4294967296
-      → (callIn (kind ∷ n ∷ (bytes32 (length piece) ++ (piece ++ more))) output ≡ deliver n piece output)
-      × (behind (kind ∷ n ∷ (bytes32 (length piece) ++ (piece ++ more))) ≡ more)
+      → FirstIs (kind ∷ n ∷ (bytes32 (length piece) ++ (piece ++ more))) output (deliver n piece output) more

@@ -1,15 +1,17 @@
 -- A script of calls in bytes, run on one record, one area and one output: the run that the stream theorem speaks of, as code.
 use Prim.Native.Nat.{ℕ, zero, suc, _+_, _-_}
-use mathlib.Core.Bool.{Bool, cond}
+use mathlib.Core.Bool.{cond}
 use mathlib.Core.List.{List, [], _∷_}
 use lib.ListN.{length, getD, take, drop}
 use lib.Dec.{eqb, ltb, leb}
 use Rattle.octets.specs.Numbers.{be32At}
-use Rattle.stream.specs.Machine.{Call, deliver, ask}
+use Rattle.stream.specs.Machine.{deliver, ask}
 use Rattle.endpoint.specs.Outcome.{Outcome}
 use Rattle.endpoint.specs.declared.Record.{Record}
-use Rattle.promise.specs.Rulebook.{Ask, opening, closing, ticking, taking, datagram, callOf}
+use Rattle.promise.specs.Rulebook.{opening, closing, ticking, taking, datagram}
+use Rattle.promise.specs.Calls.{HostCall, callOf}
 use Rattle.promise.specs.Stream.{runCalls}
+use Rattle.answers.specs.Numbers.{numbersOf}
 use Rattle.answers.specs.declared.Numbers.{Numbers}
 
 -- how a script stands: the record, the area, the output, and the last call's answer
@@ -23,7 +25,7 @@ abbrev pub stage : Record → List ℕ → List ℕ → Numbers → Stage
 stage state area output answer = record { state = state; area = area; output = output; answer = answer }
 
 -- the output once a call is made, which of deliveries and takings alone is lent it
-unfoldable pub outputAfter : Call Ask (List ℕ) → Outcome → List ℕ → List ℕ
+unfoldable pub outputAfter : HostCall → Outcome → List ℕ → List ℕ
 outputAfter (deliver n piece x) o output = o .output
 outputAfter (ask opening) o output = output
 outputAfter (ask (closing n)) o output = output
@@ -32,18 +34,18 @@ outputAfter (ask (taking x)) o output = o .output
 outputAfter (ask (datagram g)) o output = output
 
 -- how the script stands once a call is made
-unfoldable pub stageOf : Call Ask (List ℕ) → Record → List ℕ → List ℕ → Stage
+unfoldable pub stageOf : HostCall → Record → List ℕ → List ℕ → Stage
 stageOf c r area output =
     stage (callOf r area c .state) (callOf r area c .area) (outputAfter c (callOf r area c) output) (numbersOf (callOf r area c .answer))
 
 -- ---- how calls are written: a kind, a connection's number, a number of 32 bits, and the piece of a datagram or a delivery
 
 -- 4 is a datagram on the reset mechanism's port; any other of the kinds with a piece delivers to that connection
-unfoldable pub sentBy : ℕ → ℕ → List ℕ → List ℕ → Call Ask (List ℕ)
+unfoldable pub sentBy : ℕ → ℕ → List ℕ → List ℕ → HostCall
 sentBy kind n piece output = cond (eqb kind 4) (ask (datagram piece)) (deliver n piece output)
 
 -- 0 opens, 1 closes that connection, 2 is a clock reading, 3 takes; any other sends its piece
-unfoldable pub callBy : ℕ → ℕ → ℕ → List ℕ → List ℕ → Call Ask (List ℕ)
+unfoldable pub callBy : ℕ → ℕ → ℕ → List ℕ → List ℕ → HostCall
 callBy kind n value piece output =
     cond (eqb kind 0) (ask opening)
     (cond (eqb kind 1) (ask (closing n))
@@ -61,7 +63,7 @@ firstSize s =
     (cond (ltb (length s) (callHead + be32At s 2)) (length s) (callHead + be32At s 2))
 
 -- the first call of a script, lent this output
-unfoldable pub callIn : List ℕ → List ℕ → Call Ask (List ℕ)
+unfoldable pub callIn : List ℕ → List ℕ → HostCall
 callIn s output = callBy (getD s 0 0) (getD s 1 0) (be32At s 2) (take (firstSize s - callHead) (drop callHead s)) output
 
 -- the script behind its first call
@@ -69,7 +71,7 @@ unfoldable pub behind : List ℕ → List ℕ
 behind s = drop (firstSize s) s
 
 -- a script's calls, at most so many, each lent the output as the one before left it; fewer than six bytes are no call
-unfoldable pub callsFrom : ℕ → Record → List ℕ → List ℕ → List ℕ → List (Call Ask (List ℕ))
+unfoldable pub callsFrom : ℕ → Record → List ℕ → List ℕ → List ℕ → List HostCall
 callsFrom zero r area s output = []
 callsFrom (suc k) r area s output =
     cond (ltb (length s) callHead) []
@@ -77,11 +79,11 @@ callsFrom (suc k) r area s output =
     (outputAfter (callIn s output) (callOf r area (callIn s output)) output))
 
 -- all of them: each has a byte at least
-unfoldable pub callsIn : Record → List ℕ → List ℕ → List ℕ → List (Call Ask (List ℕ))
+unfoldable pub callsIn : Record → List ℕ → List ℕ → List ℕ → List HostCall
 callsIn r area s output = callsFrom (length s) r area s output
 
 -- the output and the answer that a run leaves
-unfoldable pub lastOutput : List ℕ → List (Call Ask (List ℕ)) → List Outcome → List ℕ
+unfoldable pub lastOutput : List ℕ → List HostCall → List Outcome → List ℕ
 lastOutput output [] os = output
 lastOutput output (c ∷ cs) [] = output
 lastOutput output (c ∷ cs) (o ∷ os) = lastOutput (outputAfter c o output) cs os
@@ -91,9 +93,10 @@ lastAnswer a [] = a
 lastAnswer a (o ∷ os) = lastAnswer (numbersOf (o .answer)) os
 
 -- how a run of these calls ends
-unfoldable pub endOf : List (Call Ask (List ℕ)) → Record → List ℕ → List ℕ → Numbers → Stage
+unfoldable pub endOf : List HostCall → Record → List ℕ → List ℕ → Numbers → Stage
 endOf cs r area output a =
-    stage (runCalls r area cs .0 .0) (runCalls r area cs .0 .1) (lastOutput output cs (runCalls r area cs .1)) (lastAnswer a (runCalls r area cs .1))
+    let t = runCalls r area cs in
+    stage (t .0 .0) (t .0 .1) (lastOutput output cs (t .1)) (lastAnswer a (t .1))
 
 -- THE SCRIPT: the run of its calls
 unfoldable pub scriptOf : Record → List ℕ → List ℕ → List ℕ → Stage

@@ -5,16 +5,17 @@ use mathlib.Core.Bool.{Bool, true, false, cond}
 use mathlib.Core.List.{List, [], _∷_, _++_, append-nil, append-assoc}
 use native.Mathlib.Omega.{arith}
 use lib.ListN.{length, take, drop, getD, length-append}
-use lib.Seq.{take-append-add, take-suc, take-take, take-all, drop-cons, take-nil}
+use lib.Seq.{take-append-add, take-suc, take-take, drop-cons}
 use lib.Dec.{eqb}
 use Rattle.frame.specs.Decide.{decide, taken, settled}
 use Rattle.frame.proofs.Ways.{deciding}
-use Rattle.stream.specs.Machine.{Call, deliver, ask, Whole, handed, asked, Answer, more, denied, gave, Held, put, only, whole, delivered, step, run, answered, answers}
+use Rattle.stream.specs.Machine.{Call, deliver, ask, Whole, handed, more, Held, put, whole, delivered, step, run, answered, answers}
 use Rattle.stream.specs.Cut.{singles, drip, drips, comesTo}
-use Rattle.stream.specs.Promise.{AllBytes, Laws, Good}
+use Rattle.stream.specs.Promise.{AllBytes, Good}
+use Rattle.stream.specs.Scaffold.{Laws}
 use Rattle.frame.proofs.Bytes.{part-waits, before-waits, beyond}
 use Rattle.stream.proofs.Stream.{put-elim, step-good}
-use Rattle.stream.proofs.Lent.{put-same, put-other}
+use Rattle.stream.proofs.Lent.{put-same}
 
 pub put-self : (h : Held) (c : ℕ) → put h c (h c) ≡ h
 put-self h c = fun-ext λ n. put-elim h c (h c) n (λ x. x ≡ h n) (λ e. ap h (sym e)) refl

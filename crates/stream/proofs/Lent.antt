@@ -1,24 +1,24 @@
 -- How undecided bytes lie in the lent area: what the calls of an endpoint do to the area and the counts is what the machine over
 -- pieces does to the bytes held. Assumes nothing.
-use Prim.Native.Nat.{ℕ, zero, suc, _+_, _-_, _*_, _≤_, _<_}
-use mathlib.Core.Path.{_≡_, refl, sym, ap, _∙_, subst}
+use Prim.Native.Nat.{ℕ, zero, suc, _+_, _-_, _≤_, _<_}
+use mathlib.Core.Path.{_≡_, refl, sym, ap, _∙_}
 use mathlib.Core.Logic.{_≢_}
-use mathlib.Core.Bool.{Bool, true, false, cond, not, _&&_}
+use mathlib.Core.Bool.{Bool, true, false, cond}
 use mathlib.Core.List.{List, [], _∷_, _++_, append-nil, append-assoc}
 use native.Mathlib.Omega.{arith}
 use native.Mathlib.Decide.{ℕ-discrete}
 use native.Mathlib.Numerals.{add-one}
 use native.Mathlib.Nat.{not-suc-le-zero, add-zero, zero-add, suc-add, add-suc}
 use lib.ListN.{length, take, drop, set, getD, length-append, length-drop, List·getD-append, drop-of-length-le, take-append-drop, replicate}
-use lib.Seq.{take-at, drop-at, take-append-le, drop-append-le, take-append-seam, set-append-left, set-at, getD-at, take-length, take-take, take-all, drop-drop, drop-append-seam, take-add, sets, sets-eq}
-use lib.Dec.{eqb}
-use borrow.Author.Tests.{eq-eqb, ne-eqb, eqb-true}
-use Rattle.octets.specs.Zeros.{zeros, allZero}
+use lib.Seq.{take-at, drop-at, take-append-le, drop-append-le, take-append-seam, set-append-left, set-at, getD-at, take-take, take-all, drop-drop, drop-append-seam, take-add, sets, sets-eq}
+use borrow.Author.Tests.{eq-eqb, ne-eqb}
+use Rattle.octets.specs.Zeros.{zeros}
 use Rattle.octets.proofs.Scans.{drop-zeros, length-zeros, zeros-append, all-zero-zeros}
 use Rattle.frame.specs.Decide.{decide, settled}
 use Rattle.area.specs.Area.{partBytes, areaBytes, partAt, partSound, partsSound, areaSound, undecidedOf, partCleared, clearedFrom, closedCleared, heldKept}
 use Rattle.stream.specs.Machine.{Held, none-held, put, only}
-use Rattle.stream.specs.Lent.{partHolding, flat, countsOf, livesOf}
+use Rattle.stream.specs.Lent.{partHolding, flat, countsOf}
+use Rattle.stream.specs.Scaffold.{livesOf}
 use Rattle.stream.proofs.Stream.{put-elim}
 
 -- ---- a put, at its place and at another

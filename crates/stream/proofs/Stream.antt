@@ -1,16 +1,17 @@
 -- The stream theorem. Assumes nothing.
-use Prim.Native.Nat.{ℕ, zero, suc, _+_, _-_, _≤_, _<_}
-use mathlib.Core.Path.{_≡_, refl, sym, ap, _∙_, subst, fun-ext}
+use Prim.Native.Nat.{ℕ, zero, suc, _-_, _≤_}
+use mathlib.Core.Path.{_≡_, refl, sym, ap, _∙_, fun-ext}
 use mathlib.Core.Bool.{Bool, true, false, cond, not, true≢false}
-use mathlib.Core.List.{List, [], _∷_, _++_, append-nil, append-assoc}
+use mathlib.Core.List.{List, [], _∷_, _++_}
 use native.Mathlib.Omega.{arith}
 use lib.ListN.{length, take, length-append}
-use lib.Dec.{T, eqb, eqb→eq}
+use lib.Dec.{eqb}
 use borrow.Author.Tests.{eqb-true}
 use Rattle.frame.specs.Decide.{decide, taken, settled}
 use Rattle.frame.proofs.Ways.{deciding}
-use Rattle.stream.specs.Machine.{Call, deliver, ask, Whole, handed, asked, Answer, more, denied, gave, Held, put, only, rules, whole, delivered, step, run, left, heard, glue, answered, answers}
-use Rattle.stream.specs.Promise.{Decides, Bytes, AllBytes, Apt, Apts, Right, Told, Laws, Good, Streamed, Isolating, Closure}
+use Rattle.stream.specs.Machine.{Call, deliver, ask, Whole, handed, asked, Answer, Held, put, only, rules, whole, delivered, step, run, left, heard, glue, answered, answers}
+use Rattle.stream.specs.Promise.{Bytes, AllBytes, Apt, Apts, Right, Told, Good, Streamed}
+use Rattle.stream.specs.Scaffold.{Laws}
 use Rattle.frame.proofs.Bytes.{nil-waits, glued}
 use Rattle.octets.specs.Numbers.{Octets}
 use Rattle.octets.proofs.Digits.{octets-take}
@@ -152,17 +153,4 @@ module _ {R Out Ask Room : Type 0} (rule : R → Whole Ask Room → R × Out) wh
             told = (w .right, rw (w .same, w .held) (t .told));
             rest = t .rest ∙ ap (λ x. (glue shut x es) .1) (sym (w .held));
             good = t .good;
-          }
-
-      -- a closure
-      pub closure : {Own : Type 0} (own : R → ℕ → Own) (nothing : Own) → Isolating rule open? admit shut own nothing Fine
-          → (r : R) (h : Held) (w : Whole Ask Room) (n : ℕ) → Good rule open? admit shut Fine r h → Apt rule open? admit r w
-          → Closure rule open? admit shut own nothing r h w ((whole rule open? admit r h w n) .0) ((rule r w) .1)
-      unfolding whole only
-      closure own nothing iso r h w n good a =
-          record {
-            device-gone = λ c s. iso .gone r w c (good .fine) a s;
-            bytes-gone = λ c o s. rw (laws .tells r w c (good .fine) a o, s);
-            device-kept = λ c m s o t. iso .kept r w c m (good .fine) a s o t;
-            bytes-kept = λ m o t. rw (laws .tells r w m (good .fine) a o, t);
           }

@@ -1,16 +1,16 @@
 -- Undecided bytes of a connection may come before or after any other call that is not about it. Assumes nothing.
 use Prim.Native.Nat.{ℕ, zero, suc, _-_}
-use mathlib.Core.Path.{_≡_, refl, sym, ap, _∙_, fun-ext}
+use mathlib.Core.Path.{_≡_, refl, sym, _∙_, fun-ext}
 use mathlib.Core.Logic.{_≢_}
-use mathlib.Core.Bool.{Bool, true, false, cond, true≢false}
-use mathlib.Core.List.{List, [], _∷_, _++_, append-nil, append-assoc}
+use mathlib.Core.Bool.{Bool, true, false, cond}
+use mathlib.Core.List.{List, [], _∷_, _++_, append-nil}
 use lib.ListN.{length, take}
 use lib.Dec.{eqb}
 use borrow.Author.Tests.{eqb-true}
 use Rattle.frame.specs.Decide.{decide, taken, settled}
-use Rattle.stream.specs.Machine.{Call, deliver, ask, Whole, handed, asked, Answer, more, denied, gave, Held, put, only, whole, delivered, step, run, answered, answers}
+use Rattle.stream.specs.Machine.{Call, deliver, ask, Whole, handed, asked, Answer, Held, put, only, whole, delivered, step, answered}
 use Rattle.stream.specs.Cut.{comesTo}
-use Rattle.stream.proofs.Lent.{put-same, put-other}
+use Rattle.stream.proofs.Lent.{put-other}
 use Rattle.stream.proofs.Cut.{outcome-cons, outcome-one, step-waits}
 
 only-put : (t : ℕ → Bool) (h : Held) (c : ℕ) (x : List ℕ) → t c ≡ true → only t (put h c x) ≡ put (only t h) c x

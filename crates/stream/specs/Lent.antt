@@ -1,6 +1,5 @@
 -- How undecided bytes lie in the lent area and in the record's counts.
 use Prim.Native.Nat.{ℕ, zero, suc, _-_}
-use mathlib.Core.Bool.{Bool}
 use mathlib.Core.List.{List, [], _∷_, _++_}
 use lib.ListN.{length}
 use Rattle.octets.specs.Zeros.{zeros}
@@ -20,8 +19,3 @@ flat h (suc n) = flat h n ++ partHolding (h n)
 unfoldable pub countsOf : Held → ℕ → List ℕ
 countsOf h zero = []
 countsOf h (suc n) = countsOf h n ++ (length (h n) ∷ [])
-
--- of each of the first n connections, whether it passes the test
-unfoldable pub livesOf : (ℕ → Bool) → ℕ → List Bool
-livesOf t zero = []
-livesOf t (suc n) = livesOf t n ++ (t n ∷ [])

@@ -1,12 +1,13 @@
--- What the stream theorem says, and what it asks of a device.
+-- What the stream theorem says.
 use Prim.Native.Nat.{ℕ, _≤_}
 use mathlib.Core.Path.{_≡_}
-use mathlib.Core.Bool.{Bool, true, false, not}
+use mathlib.Core.Bool.{Bool, true, false}
 use mathlib.Core.List.{List, [], _∷_, _++_}
 use lib.ListN.{length, take}
 use Rattle.octets.specs.Numbers.{Octets}
 use Rattle.frame.specs.Decide.{decide, taken, settled}
-use Rattle.stream.specs.Machine.{Call, deliver, ask, Whole, handed, asked, Answer, more, denied, gave, Held, put, rules, whole, step, run, heard, glue, answers}
+use Rattle.stream.specs.Machine.{Call, deliver, ask, Whole, handed, asked, Answer, more, denied, gave, Held}
+use Rattle.stream.specs.Machine.{rules, heard, glue, answers}
 
 -- the last byte of m decides it
 pub record Decides (m : List ℕ) : Type 0 where
@@ -52,13 +53,6 @@ module _ {R Out Ask Room : Type 0} (rule : R → Whole Ask Room → R × Out) (o
       Told r h (e ∷ es) =
           Right r h (e .0) (e .1) × Told ((rules rule r ((heard shut h (e .0) (e .1)) .0)) .0) ((heard shut h (e .0) (e .1)) .1) es
 
-      -- the laws asked of a device: Fine is its invariant, and an answer tells which connections are closed by it
-      pub record Laws (Fine : R → Type 0) : Type 0 where
-        pub keeps : (r : R) (w : Whole Ask Room) → Fine r → Apt r w → Fine ((rule r w) .0)
-        pub tells : (r : R) (w : Whole Ask Room) (n : ℕ) → Fine r → Apt r w → open? r n ≡ true
-            → open? ((rule r w) .0) n ≡ not (shut w ((rule r w) .1) n)
-        pub admits : (r : R) (c : ℕ) (x : Room) → Fine r → admit r c x ≡ 0 → open? r c ≡ true
-
       -- the invariant of the endpoint over pieces: undecided bytes wait, a closed connection has none, and they are bytes
       pub record Good (Fine : R → Type 0) (r : R) (h : Held) : Type 0 where
         pub fine : Fine r
@@ -78,17 +72,3 @@ module _ {R Out Ask Room : Type 0} (rule : R → Whole Ask Room → R × Out) (o
         pub rest : s .1 ≡ (glue shut h t) .1
         -- they are undecided, and a closed connection has none
         pub good : Good Fine (s .0) (s .1)
-
-      -- what is a connection's own in the device, and what a closure does to it
-      module _ {Own : Type 0} (own : R → ℕ → Own) (nothing : Own) where
-        pub record Isolating (Fine : R → Type 0) : Type 0 where
-          pub gone : (r : R) (w : Whole Ask Room) (c : ℕ) → Fine r → Apt r w → shut w ((rule r w) .1) c ≡ true → own ((rule r w) .0) c ≡ nothing
-          pub kept : (r : R) (w : Whole Ask Room) (c n : ℕ) → Fine r → Apt r w → shut w ((rule r w) .1) c ≡ true → open? r n ≡ true
-              → shut w ((rule r w) .1) n ≡ false → own ((rule r w) .0) n ≡ own r n
-
-        -- of a whole call that closes connections: nothing of theirs is left, and every connection that stays open has what it had
-        pub record Closure (r : R) (h : Held) (w : Whole Ask Room) (s : R × Held) (o : Out) : Type 0 where
-          pub device-gone : (c : ℕ) → shut w o c ≡ true → own (s .0) c ≡ nothing
-          pub bytes-gone : (c : ℕ) → open? r c ≡ true → shut w o c ≡ true → s .1 c ≡ []
-          pub device-kept : (c n : ℕ) → shut w o c ≡ true → open? r n ≡ true → shut w o n ≡ false → own (s .0) n ≡ own r n
-          pub bytes-kept : (n : ℕ) → open? r n ≡ true → shut w o n ≡ false → s .1 n ≡ h n

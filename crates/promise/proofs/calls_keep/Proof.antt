@@ -1,4 +1,4 @@
-use Rattle.promise.proofs.Keeps.{calls-keep}
+use Rattle.promise.proofs.Kept.{calls-keep}
 use Rattle.promise.proofs.calls_keep.Statement.{statement}
 use Rattle.promise.proofs.calls_keep.Tie as tie
 

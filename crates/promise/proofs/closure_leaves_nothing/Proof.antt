@@ -1,4 +1,4 @@
-use Rattle.promise.proofs.Closing.{closure-leaves-nothing}
+use Rattle.promise.proofs.Closure.{closure-leaves-nothing}
 use Rattle.promise.proofs.closure_leaves_nothing.Statement.{statement}
 use Rattle.promise.proofs.closure_leaves_nothing.Tie as tie
 

@@ -1,4 +1,4 @@
-use Rattle.promise.proofs.Keeps.{cutting}
+use Rattle.promise.proofs.Stream.{cutting}
 use Rattle.promise.proofs.cutting_does_not_matter.Statement.{statement}
 use Rattle.promise.proofs.cutting_does_not_matter.Tie as tie
 

@@ -1,4 +1,4 @@
-use Rattle.promise.proofs.Worked.{worked}
+use Rattle.promise.proofs.Examples.{worked}
 use Rattle.promise.proofs.examples_worked.Statement.{statement}
 use Rattle.promise.proofs.examples_worked.Tie as tie
 

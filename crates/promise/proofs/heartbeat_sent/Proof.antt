@@ -1,4 +1,4 @@
-use Rattle.promise.proofs.Alive.{heartbeat-sent}
+use Rattle.promise.proofs.Heartbeats.{heartbeat-sent}
 use Rattle.promise.proofs.heartbeat_sent.Statement.{statement}
 use Rattle.promise.proofs.heartbeat_sent.Tie as tie
 

@@ -1,4 +1,4 @@
-use Rattle.promise.proofs.Keys.{key-stays-inside}
+use Rattle.promise.proofs.ResetKey.{key-stays-inside}
 use Rattle.promise.proofs.key_stays_inside.Statement.{statement}
 use Rattle.promise.proofs.key_stays_inside.Tie as tie
 

@@ -1,4 +1,4 @@
-use Rattle.promise.proofs.Keys.{latest-key-counts}
+use Rattle.promise.proofs.ResetKey.{latest-key-counts}
 use Rattle.promise.proofs.latest_key_counts.Statement.{statement}
 use Rattle.promise.proofs.latest_key_counts.Tie as tie
 

@@ -1,4 +1,4 @@
-use Rattle.promise.proofs.Keeps.{mixing}
+use Rattle.promise.proofs.Stream.{mixing}
 use Rattle.promise.proofs.mixing_does_not_matter.Statement.{statement}
 use Rattle.promise.proofs.mixing_does_not_matter.Tie as tie
 

@@ -1,4 +1,4 @@
-use Rattle.promise.proofs.Frees.{rack-free-again}
+use Rattle.promise.proofs.Reset.{rack-free-again}
 use Rattle.promise.proofs.rack_free_again.Statement.{statement}
 use Rattle.promise.proofs.rack_free_again.Tie as tie
 

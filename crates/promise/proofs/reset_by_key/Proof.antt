@@ -1,4 +1,4 @@
-use Rattle.promise.proofs.Resets.{reset-by-key}
+use Rattle.promise.proofs.Reset.{reset-by-key}
 use Rattle.promise.proofs.reset_by_key.Statement.{statement}
 use Rattle.promise.proofs.reset_by_key.Tie as tie
 

@@ -1,4 +1,4 @@
-use Rattle.promise.proofs.Keeps.{stream-theorem}
+use Rattle.promise.proofs.Stream.{stream-theorem}
 use Rattle.promise.proofs.stream_theorem.Statement.{statement}
 use Rattle.promise.proofs.stream_theorem.Tie as tie
 

@@ -1,4 +1,4 @@
-use Rattle.promise.proofs.Technicians.{technician-let-in}
+use Rattle.promise.proofs.Technician.{technician-let-in}
 use Rattle.promise.proofs.technician_let_in.Statement.{statement}
 use Rattle.promise.proofs.technician_let_in.Tie as tie
 

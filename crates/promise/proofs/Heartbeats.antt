@@ -1,4 +1,4 @@
--- When a connection is due, and that the takes come to it. Assumes nothing.
+-- HeartbeatSent: when a connection is due, and that the takes come to it. Assumes nothing.
 use Prim.Native.Nat.{ℕ, zero, suc, _+_, _*_, _/_, _%_, _<_, _≤_}
 use mathlib.Core.Path.{_≡_, refl, sym, ap, _∙_}
 use mathlib.Core.Logic.{⊎-elim}
@@ -16,7 +16,7 @@ use Rattle.heartbeat.specs.Beat.{formOf, beatOf}
 use Rattle.frame.specs.Header.{pduType}
 use Rattle.frame.specs.Decide.{decide}
 use Rattle.frame.specs.declared.Decision.the-variants.{Sound}
-use Rattle.area.specs.Area.{heldObeys, areaSound}
+use Rattle.area.specs.Area.{heldObeys}
 use Rattle.connection.specs.State.{closed, liveAt, isDue, lowestDue}
 use Rattle.connection.specs.Obeys.{isClosed, isIdle, formObeys, isTimed, connectionObeys}
 use Rattle.connection.specs.Supervision.{closesAt, counted, quietAfter, connectionTicked, heardOf, sentOf, heartbeatKept}
@@ -33,20 +33,21 @@ use Rattle.device.proofs.Keeps.{rules-kept}
 use Rattle.serve.specs.Sound.{soundOf}
 use Rattle.stream.specs.Machine.{ask}
 use Rattle.endpoint.specs.State.{stateOf, recordObeys}
-use Rattle.endpoint.specs.Outcome.{Outcome, refused}
 use Rattle.endpoint.specs.Calls.{tickCall}
-use Rattle.endpoint.specs.Deliver.{leastOutput, heldAt, messaged, deliveredBy, takenIn, deliverCall}
+use Rattle.endpoint.specs.Deliver.{leastOutput, messaged, deliveredBy, takenIn, deliverCall}
 use Rattle.endpoint.specs.Take.{subscriptionAt, notifiedOf, sentOut, notifying, reminding, takenBy, takeCall}
 use Rattle.endpoint.specs.declared.Record.{Record}
 use Rattle.endpoint.proofs.States.{live-low}
 use Rattle.endpoint.proofs.Takes.{connection-obeys}
-use Rattle.promise.specs.Rulebook.{ticking, callOf}
+use Rattle.promise.specs.Rulebook.{ticking}
+use Rattle.promise.specs.Calls.{callOf}
 use Rattle.promise.specs.Kept.{Kept}
 use Rattle.promise.specs.Technician.{stepAt, passes}
-use Rattle.promise.specs.Heartbeats.{Paced, openAfter, openAtLast, broughtBy, isUnanswered, Ready, Reminds, SendsTo, count, somethingWaits, waitingIn, takesCall, HeartbeatSent, ticksCall, allPass, ticksTime}
-use Rattle.promise.proofs.Lives.{lives-sent, lives-told}
-use Rattle.promise.proofs.Keeps.{calls-keep}
-use Rattle.promise.proofs.Technicians.{connection-after, entries-after, moved}
+use Rattle.promise.specs.Heartbeats.{Paced, openAfter, openAtLast, broughtBy, isUnanswered, Ready, Reminds, SendsTo, count, somethingWaits, waitingIn, takesCall, HeartbeatSent, ticksCall, allPass, ticksTime, SentWithin, PacedTicks, DueTicks, ReadyTake, Roomy}
+use Rattle.promise.proofs.OpenConnections.{lives-sent, lives-told}
+use Rattle.promise.proofs.Ways.{delivery-ways}
+use Rattle.promise.proofs.Kept.{calls-keep}
+use Rattle.promise.proofs.Ticks.{connection-after, entries-after, moved}
 
 -- a connection with other counts
 paced-as : (d e : Device) (n H q : ℕ) (b : Bool) → Paced d n H q b → (s q' : ℕ) (b' : Bool) → getD (e .connections) n closed ≡ counted (getD (d .connections) n closed) s q' b' → Paced e n H q' b'
@@ -123,19 +124,19 @@ open-before r area (x ∷ rest) n p o =
     was-open r area x (and-left (passes r area x) _ p) n
     (open-before (tickCall r area x .state) (tickCall r area x .area) rest n (and-right (passes r area x) _ p) o)
 
-many : (r : Record) (area readings : List ℕ) (n H q : ℕ) → Paced (r .device) n H q false → allPass r area readings ≡ true → openAtLast r area readings n ≡ true
-    → q + ticksTime (r .device .reading) readings < H → Paced (ticksCall r area readings .0 .device) n H (q + ticksTime (r .device .reading) readings) false
+many : (r : Record) (area readings : List ℕ) (n H q : ℕ) → PacedTicks r area readings n H q → q + ticksTime (r .device .reading) readings < H
+    → Paced (ticksCall r area readings .0 .device) n H (q + ticksTime (r .device .reading) readings) false
 unfolding ticksCall allPass ticksTime
-many r area [] n H q w p o l = let e : q + 0 ≡ q = omega arith in rw e w
-many r area (x ∷ rest) n H q w p o l =
-    let a = and-left (passes r area x) _ p in
-    let b = and-right (passes r area x) _ p in
+many r area [] n H q w l = let e : q + 0 ≡ q = omega arith in rw e (w .paced)
+many r area (x ∷ rest) n H q w l =
+    let a = and-left (passes r area x) _ (w .passing) in
+    let b = and-right (passes r area x) _ (w .passing) in
     let r' = tickCall r area x .state in
-    let y = open-before r' (tickCall r area x .area) rest n b o in
+    let y = open-before r' (tickCall r area x .area) rest n b (w .stays) in
     let m : r' .device .reading ≡ x = moved r area x a in
-    let v = counts r area x a n y H q w (omega arith) in
+    let v = counts r area x a n y H q (w .paced) (omega arith) in
     let e : q + stepAt r x + ticksTime (r' .device .reading) rest ≡ q + (stepAt r x + ticksTime x rest) = rw m (omega arith) in
-    rw e at (many r' (tickCall r area x .area) rest n H (q + stepAt r x) v b o (rw e l))
+    rw e at (many r' (tickCall r area x .area) rest n H (q + stepAt r x) (record { paced = v; passing = b; stays = w .stays }) (rw e l))
 
 all-due : (r : Record) (area readings : List ℕ) (n H q : ℕ) → Paced (r .device) n H q true → allPass r area readings ≡ true → openAtLast r area readings n ≡ true
     → Paced (ticksCall r area readings .0 .device) n H q true
@@ -147,25 +148,26 @@ all-due r area (x ∷ rest) n H q w p o =
     let y = open-before (tickCall r area x .state) (tickCall r area x .area) rest n b o in
     all-due (tickCall r area x .state) (tickCall r area x .area) rest n H q (stays-due r area x a n y H q w) b o
 
-due-by-then : (r : Record) (area readings : List ℕ) (n H q : ℕ) → Paced (r .device) n H q false → q < H → allPass r area readings ≡ true → openAtLast r area readings n ≡ true
-    → H ≤ q + ticksTime (r .device .reading) readings → Paced (ticksCall r area readings .0 .device) n H 0 true
+due-by-then : (r : Record) (area readings : List ℕ) (n H q : ℕ) → DueTicks r area readings n H q → Paced (ticksCall r area readings .0 .device) n H 0 true
 unfolding ticksCall allPass ticksTime
-due-by-then r area [] n H q w f p o l = absurd (omega arith)
-due-by-then r area (x ∷ rest) n H q w f p o l =
+due-by-then r area [] n H q w = absurd (omega (arith, w .below, w .reaches))
+due-by-then r area (x ∷ rest) n H q w =
     go (ltb (q + stepAt r x) H) refl
-    (λ v h. due-by-then (tickCall r area x .state) (tickCall r area x .area) rest n H (q + stepAt r x) v h b o (rw e l))
+    (λ v h.
+    due-by-then (tickCall r area x .state) (tickCall r area x .area) rest n H (q + stepAt r x)
+    (record { ticks = record { paced = v; passing = b; stays = w .ticks .stays }; below = h; reaches = rw e (w .reaches) }))
   where
     a : passes r area x ≡ true
-    a = and-left (passes r area x) _ p
+    a = and-left (passes r area x) _ (w .ticks .passing)
 
     r' : Record
     r' = tickCall r area x .state
 
     b : allPass r' (tickCall r area x .area) rest ≡ true
-    b = and-right (passes r area x) _ p
+    b = and-right (passes r area x) _ (w .ticks .passing)
 
     y : liveAt (r' .device .connections) n ≡ true
-    y = open-before r' (tickCall r area x .area) rest n b o
+    y = open-before r' (tickCall r area x .area) rest n b (w .ticks .stays)
 
     e : q + stepAt r x + ticksTime (r' .device .reading) rest ≡ q + (stepAt r x + ticksTime x rest)
     e = rw (moved r area x a) (omega arith)
@@ -173,8 +175,8 @@ due-by-then r area (x ∷ rest) n H q w f p o l =
     go : (t : Bool) → ltb (q + stepAt r x) H ≡ t
         → (Paced (r' .device) n H (q + stepAt r x) false → q + stepAt r x < H → Paced (ticksCall r' (tickCall r area x .area) rest .0 .device) n H 0 true)
         → Paced (ticksCall r' (tickCall r area x .area) rest .0 .device) n H 0 true
-    go true t more = let h = ltb-true (q + stepAt r x) H t in more (counts r area x a n y H q w h) h
-    go false t more = all-due r' (tickCall r area x .area) rest n H 0 (due r area x a n y H q w (ltb-false (q + stepAt r x) H t)) b o
+    go true t more = let h = ltb-true (q + stepAt r x) H t in more (counts r area x a n y H q (w .ticks .paced) h) h
+    go false t more = all-due r' (tickCall r area x .area) rest n H 0 (due r area x a n y H q (w .ticks .paced) (ltb-false (q + stepAt r x) H t)) b (w .ticks .stays)
 
 -- ---- the form and the H of a connection that obeys
 closed-not : (c : Connection) → eqb (c .beat) 0 ≡ false → isClosed c ≡ false
@@ -279,16 +281,10 @@ unanswered d n m e =
 
 received : (r : Record) (area : List ℕ) (n : ℕ) (piece out : List ℕ) (t H q : ℕ) (b : Bool) → Paced (r .device) n H q b → decide (broughtBy r area n piece) ≡ Sound t
     → isUnanswered (take t (broughtBy r area n piece)) ≡ true → Paced (deliverCall r area n piece out .state .device) n H q b
-unfolding deliverCall takenIn deliveredBy messaged
-received r area n piece out t H q b w e u = go (recordObeys r) (areaSound (r .held) area) (liveAt (r .device .connections) n) (ltb (length out) leastOutput)
-  where
-    go : (x y z v : Bool)
-        → Paced (cond {A = Outcome} x (cond y (cond z (cond v (refused 4 r area out) (takenIn r area n (heldAt r n) piece out)) (refused 3 r area out)) (refused 2 r area out)) (refused 1 r area out) .state .device) n H q b
-    go false y z v = w
-    go true false z v = w
-    go true true false v = w
-    go true true true true = w
-    go true true true false = rw (e, unanswered (r .device) n (take t (broughtBy r area n piece)) u) (heard-paced (r .device) n H q b w)
+unfolding takenIn deliveredBy messaged
+received r area n piece out t H q b w e u =
+    delivery-ways (λ (d : Device). Paced d n H q b) r area n piece out w
+    (rw (e, unanswered (r .device) n (take t (broughtBy r area n piece)) u) (heard-paced (r .device) n H q b w))
 
 -- ---- one take
 -- what a take that sends does
@@ -302,7 +298,10 @@ record Sent (r : Record) (out : List ℕ) : Type 0 where
 abbrev entry : Record → ℕ
 entry r = lowestWaiting (r .device .subscriptions)
 
-module _ (r : Record) (out : List ℕ) (y : Ready r) (room : leastOutput ≤ length out) where
+module _ (r : Record) (out : List ℕ) (turn : ReadyTake r out) where
+  y : Ready r
+  y = turn .ready
+
   waits : any isWaiting (r .device .subscriptions) ≡ ltb (lowestWaiting (r .device .subscriptions)) 32
   waits = rw (y .entries) at (any-index isWaiting (r .device .subscriptions))
 
@@ -319,11 +318,11 @@ module _ (r : Record) (out : List ℕ) (y : Ready r) (room : leastOutput ≤ len
 
   notified : any isWaiting (r .device .subscriptions) ≡ true → takeCall r out ≡ notifying r out (entry r)
   unfolding takeCall takenBy
-  notified e = rw (y .obeys, le-ltb (length out) leastOutput room, sym waits ∙ e)
+  notified e = rw (y .obeys, le-ltb (length out) leastOutput (turn .room), sym waits ∙ e)
 
   reminded : any isWaiting (r .device .subscriptions) ≡ false → any isDue (r .device .connections) ≡ true → takeCall r out ≡ reminding r out (lowestDue (r .device .connections))
   unfolding takeCall takenBy
-  reminded e f = rw (y .obeys, le-ltb (length out) leastOutput room, sym waits ∙ e, sym dues ∙ f)
+  reminded e f = rw (y .obeys, le-ltb (length out) leastOutput (turn .room), sym waits ∙ e, sym dues ∙ f)
 
   -- the record with another device, whose connections are open as before
   ready-on : (d : Device) → deviceObeys d ≡ true → livesIn d ≡ livesIn (r .device) → length (d .connections) ≡ 8 → length (d .subscriptions) ≡ 32 → Ready (stateOf d (r .held))
@@ -413,20 +412,22 @@ unfolding somethingWaits isDue
 due-waits d n e = or-right (any isWaiting (d .subscriptions)) (any isDue (d .connections)) (any-at isDue (d .connections) n closed refl e)
 
 -- while at most k wait, one of the next k takes sends connection n something
-reached : (k : ℕ) (r : Record) (outs : ℕ → List ℕ) (n : ℕ) → Ready r → ((i : ℕ) → leastOutput ≤ length (outs i)) → getD (r .device .connections) n closed .due ≡ true → waitingIn (r .device) ≤ k
-    → (j : ℕ) × ((j < k) × SendsTo (takesCall r outs j) (outs j) n)
+reached : (k : ℕ) (r : Record) (outs : ℕ → List ℕ) (n : ℕ) → Ready r → Roomy outs → getD (r .device .connections) n closed .due ≡ true → waitingIn (r .device) ≤ k
+    → SentWithin r outs n k
 unfolding takesCall
-reached zero r outs n y room e h = absurd (omega (arith, sent r (outs 0) y (room 0) (due-waits (r .device) n e) .fewer))
+reached zero r outs n y room e h = absurd (omega (arith, sent r (outs 0) (record { ready = y; room = room 0 }) (due-waits (r .device) n e) .fewer))
 reached (suc k) r outs n y room e h = go (eqb n (s .to)) refl (λ d. reached k (takeCall r (outs 0) .state) (λ i. outs (suc i)) n (s .ready) (λ i. room (suc i)) d (omega (arith, s .fewer)))
   where
     s : Sent r (outs 0)
-    s = sent r (outs 0) y (room 0) (due-waits (r .device) n e)
+    s = sent r (outs 0) (record { ready = y; room = room 0 }) (due-waits (r .device) n e)
 
     go : (b : Bool) → eqb n (s .to) ≡ b
-        → (getD (takeCall r (outs 0) .state .device .connections) n closed .due ≡ true → (j : ℕ) × ((j < k) × SendsTo (takesCall (takeCall r (outs 0) .state) (λ i. outs (suc i)) j) (outs (suc j)) n))
-        → (j : ℕ) × ((j < suc k) × SendsTo (takesCall r outs j) (outs j) n)
-    go true b more = (0, (omega arith, rw (← eqb-true n (s .to) b) at (s .sends)))
-    go false b more = let m = more (ap (λ (x : Connection). x .due) (s .sends .others n b) ∙ e) in (suc (m .0), (omega (arith, m .1 .0), m .1 .1))
+        → (getD (takeCall r (outs 0) .state .device .connections) n closed .due ≡ true → SentWithin (takeCall r (outs 0) .state) (λ i. outs (suc i)) n k)
+        → SentWithin r outs n (suc k)
+    go true b more = record { which = 0; soon = omega arith; sends = rw (← eqb-true n (s .to) b) at (s .sends) }
+    go false b more =
+        let m = more (ap (λ (x : Connection). x .due) (s .sends .others n b) ∙ e) in
+        record { which = suc (m .which); soon = omega (arith, m .soon); sends = m .sends }
 
 most : (r : Record) → Ready r → waitingIn (r .device) ≤ 40
 unfolding waitingIn
@@ -450,26 +451,26 @@ ticks-entries r area (x ∷ rest) p =
     ticks-entries (tickCall r area x .state) (tickCall r area x .area) rest (and-right (passes r area x) _ p)
     ∙ entries-after r area x (and-left (passes r area x) _ p)
 
-heard : (r : Record) (area readings : List ℕ) (n H q : ℕ) (outs : ℕ → List ℕ) → Kept r area → length (r .device .subscriptions) ≡ 32 → Paced (r .device) n H q false → q < H
-    → allPass r area readings ≡ true → openAtLast r area readings n ≡ true → H ≤ q + ticksTime (r .device .reading) readings → ((k : ℕ) → leastOutput ≤ length (outs k))
-    → (j : ℕ) × ((j < 40) × SendsTo (takesCall (ticksCall r area readings .0) outs j) (outs j) n)
-heard r area readings n H q outs k e w f p o l room =
+heard : (r : Record) (area readings : List ℕ) (n H q : ℕ) (outs : ℕ → List ℕ) → Kept r area → length (r .device .subscriptions) ≡ 32 → DueTicks r area readings n H q
+    → Roomy outs → SentWithin (ticksCall r area readings .0) outs n 40
+heard r area readings n H q outs k e w room =
     let v = ticks-kept r area readings k in
-    let y : Ready (ticksCall r area readings .0) = record { obeys = v .obeys; eight = v .eight; entries = ticks-entries r area readings p ∙ e } in
-    reached 40 (ticksCall r area readings .0) outs n y room (due-by-then r area readings n H q w f p o l .marked) (most (ticksCall r area readings .0) y)
+    let y : Ready (ticksCall r area readings .0) =
+    record { obeys = v .obeys; eight = v .eight; entries = ticks-entries r area readings (w .ticks .passing) ∙ e } in
+    reached 40 (ticksCall r area readings .0) outs n y room (due-by-then r area readings n H q w .marked) (most (ticksCall r area readings .0) y)
 
 pub heartbeat-sent : HeartbeatSent
 heartbeat-sent =
     record {
-      due = λ r area x n H q w p o. due r area x p n o H q w;
-      counts = λ r area x n H q w p o. counts r area x p n o H q w;
-      staysDue = λ r area x n H q w p o. stays-due r area x p n o H q w;
+      due = λ r area x n H q w. due r area x (w .passing) n (w .stays) H q (w .paced);
+      counts = λ r area x n H q w. counts r area x (w .passing) n (w .stays) H q (w .paced);
+      staysDue = λ r area x n H q w. stays-due r area x (w .passing) n (w .stays) H q (w .paced);
       many = many;
       dueByThen = due-by-then;
       received = received;
-      sends = λ r out n H q y room w e f. reminding-is r out y room n H q w e f;
-      something = λ r out y room e. (sent r out y room e .to, sent r out y room e .sends);
-      fewer = λ r out y room e. sent r out y room e .fewer;
+      sends = λ r out n H q y w e f. reminding-is r out y n H q w e f;
+      something = λ r out y e. (sent r out y e .to, sent r out y e .sends);
+      fewer = λ r out y e. sent r out y e .fewer;
       most = most;
       reached = λ r outs n y room e. reached (waitingIn (r .device)) r outs n y room e (omega arith);
       heard = heard;

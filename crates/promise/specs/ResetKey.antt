@@ -25,13 +25,14 @@ use Rattle.device.specs.State.{withMechanism}
 use Rattle.device.specs.Run.{statusOf}
 use Rattle.device.specs.Run as commands
 use Rattle.device.specs.declared.Device.{Device}
-use Rattle.stream.specs.Machine.{Call, deliver, ask, handed, asked, Held, glue}
+use Rattle.stream.specs.Machine.{deliver, ask, handed, asked, Held, glue}
 use Rattle.stream.specs.Promise.{AllBytes}
-use Rattle.stream.specs.Lent.{flat, countsOf}
 use Rattle.endpoint.specs.State.{stateOf}
 use Rattle.endpoint.specs.Outcome.{Outcome}
 use Rattle.endpoint.specs.declared.Record.{Record}
-use Rattle.promise.specs.Rulebook.{Ask, opening, closing, ticking, taking, datagram, Asked, rule, shut, callOf}
+use Rattle.promise.specs.Rulebook.{opening, closing, ticking, taking, datagram, Asked, rule, shut}
+use Rattle.promise.specs.Calls.{HostCall}
+use Rattle.promise.specs.Calls.{callOf, recordWith, areaWith}
 use Rattle.promise.specs.Stream.{runCalls, machine, GoodState}
 
 -- ---- the latest key
@@ -89,8 +90,8 @@ pub record LatestKeyCounts : Type 0 where
   -- a whole call: commands and a reset change the mechanism, and nothing else does
   pub whole : (d : Device) (w : Asked) → rule d w .0 .mechanism ≡ latest (d .mechanism) w
   -- any list of calls, from any state that keeps the rules: the mechanism is that of the whole calls, one after another
-  pub calls : (d : Device) (h : Held) (cs : List (Call Ask (List ℕ))) → GoodState d h → AllBytes cs
-      → runCalls (stateOf d (countsOf h 8)) (flat h 8) cs .0 .0 .device .mechanism
+  pub calls : (d : Device) (h : Held) (cs : List HostCall) → GoodState d h → AllBytes cs
+      → runCalls (recordWith d h) (areaWith h) cs .0 .0 .device .mechanism
       ≡ latestOver (d .mechanism) (glue shut h (machine d h cs .1) .0)
 
 -- ---- the key stays inside
@@ -114,7 +115,7 @@ abbrev pub seen : Outcome → Seen
 seen o = record { answer = o .answer; area = o .area; output = o .output }
 
 -- neither record is reset by the call: it is no datagram, or one that is neither's key
-unfoldable pub isNoReset : Record → Record → Call Ask (List ℕ) → Bool
+unfoldable pub isNoReset : Record → Record → HostCall → Bool
 isNoReset r s (deliver n piece out) = true
 isNoReset r s (ask opening) = true
 isNoReset r s (ask (closing n)) = true
@@ -123,15 +124,16 @@ isNoReset r s (ask (taking out)) = true
 isNoReset r s (ask (datagram g)) = not (resets (r .device .mechanism) g) && not (resets (s .device .mechanism) g)
 
 -- nor by any of these calls, made on each record and its area
-unfoldable pub noReset : Record → List ℕ → Record → List ℕ → List (Call Ask (List ℕ)) → Bool
+unfoldable pub noReset : Record → List ℕ → Record → List ℕ → List HostCall → Bool
 noReset r x s y [] = true
 noReset r x s y (c ∷ cs) =
     isNoReset r s c && noReset (callOf r x c .state) (callOf r x c .area) (callOf s y c .state) (callOf s y c .area) cs
 
 pub record KeyStaysInside : Type 0 where
   -- every call, an arming and a wrong datagram too: nothing that is seen tells the keys apart, and the records are again alike but for them
-  pub call : (r s : Record) (area : List ℕ) (c : Call Ask (List ℕ)) → AlikeButKey r s → isNoReset r s c ≡ true
+  pub call : (r s : Record) (area : List ℕ) (c : HostCall) → AlikeButKey r s → isNoReset r s c ≡ true
       → (seen (callOf r area c) ≡ seen (callOf s area c)) × AlikeButKey (callOf r area c .state) (callOf s area c .state)
   -- so for any list of calls, wrong guesses of the key among them: until a reset comes, nothing tells which of the two keys it is
-  pub calls : (r s : Record) (area : List ℕ) (cs : List (Call Ask (List ℕ))) → AlikeButKey r s → noReset r area s area cs ≡ true
-      → (map seen (runCalls r area cs .1) ≡ map seen (runCalls s area cs .1)) × AlikeButKey (runCalls r area cs .0 .0) (runCalls s area cs .0 .0)
+  pub calls : (r s : Record) (area : List ℕ) (cs : List HostCall) → AlikeButKey r s → noReset r area s area cs ≡ true
+      → (map seen (runCalls r area cs .1) ≡ map seen (runCalls s area cs .1))
+      × AlikeButKey (runCalls r area cs .0 .0) (runCalls s area cs .0 .0)

@@ -1,34 +1,31 @@
--- The definitions that the calls' contracts cite, on a lent state, are the machine over pieces. Assumes nothing.
-use Prim.Native.Nat.{ℕ, zero, suc, _+_, _-_, _≤_, _<_}
+-- A delivery, on a lent state, is the step of the machine over pieces: for Calls and Kept. Assumes nothing.
+use Prim.Native.Nat.{ℕ, zero, _+_, _≤_, _<_}
 use mathlib.Core.Path.{_≡_, refl, sym, ap, _∙_}
-use mathlib.Core.Bool.{Bool, cond, true, false, true≢false}
-use mathlib.Core.List.{List, [], _∷_, _++_}
+use mathlib.Core.Bool.{Bool, true, false}
+use mathlib.Core.List.{List, [], _++_}
 use native.Mathlib.Omega.{arith}
-use lib.Dec.{ltb, eqb}
+use lib.Dec.{eqb}
 use lib.ListN.{length, getD, set, take, length-append}
-use lib.Seq.{sets}
-use borrow.Author.Tests.{eqb-true, eqb-false, ltb-false}
+use borrow.Author.Tests.{eqb-true, eqb-false}
 use Rattle.frame.specs.Decide.{decide, taken, settled}
 use Rattle.frame.specs.declared.Decision.{Decision}
 use Rattle.frame.specs.declared.Decision.the-variants.{Undecided, Faulty, Sound}
 use Rattle.frame.proofs.Ways.{deciding, unsettled}
-use Rattle.area.specs.Area.{partBytes, partAt, areaSound, undecidedOf, partCleared}
+use Rattle.area.specs.Area.{partBytes, areaSound, undecidedOf, partCleared}
 use Rattle.connection.specs.State.{liveAt}
 use Rattle.device.specs.State.{closeOf}
 use Rattle.device.specs.declared.Device.{Device}
-use Rattle.serve.specs.Sound.{Ruled, soundOf}
-use Rattle.stream.specs.Machine.{Call, deliver, ask, Whole, handed, asked, Answer, more, denied, gave, Held, put, only, whole, delivered, step}
+use Rattle.serve.specs.Sound.{soundOf}
+use Rattle.stream.specs.Machine.{deliver, Held, put, only, whole, delivered}
 use Rattle.stream.specs.Lent.{flat, countsOf}
 use Rattle.stream.proofs.Lent.{Small, put-same, put-other, getD-counted, set-counted, undecided-flat, clear-flat, put-flat, area-flat}
-use Rattle.stream.proofs.Stream.{put-elim}
-use Rattle.endpoint.specs.State.{stateOf, recordObeys, closedState}
-use Rattle.numbers.specs.Refusal.{noConnection, noRoom}
-use Rattle.endpoint.specs.Outcome.{Outcome, outcome}
-use Rattle.endpoint.specs.Deliver.{leastOutput, messaged, deliveredBy, takenIn, deliverCall}
+use Rattle.endpoint.specs.State.{stateOf, closedState}
+use Rattle.endpoint.specs.Deliver.{messaged, deliveredBy, takenIn}
 use Rattle.endpoint.specs.declared.Record.{Record}
 use Rattle.endpoint.proofs.States.{live-low}
-use Rattle.promise.specs.Rulebook.{Ask, Given, given, messageBy, rule, open?, admit, shut, Fine, callOf, withTaken, outcomeOf}
-use Rattle.promise.proofs.Lives.{GoodAt, record-obeys, only-same, live-closed, live-sound}
+use Rattle.promise.specs.Rulebook.{messageBy, rule, open?, admit}
+use Rattle.promise.specs.Calls.{withTaken, outcomeOf}
+use Rattle.promise.proofs.OpenConnections.{GoodAt, only-same, live-closed, live-sound}
 
 pub small : (d : Device) (h : Held) → GoodAt d h → Small h
 small d h good n = omega (arith, deciding .short (h n) (unsettled (decide (h n)) (good .waiting n)))

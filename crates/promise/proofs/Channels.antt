@@ -1,11 +1,11 @@
--- A channel that nobody asks for stays free. Assumes nothing.
-use Prim.Native.Nat.{ℕ, zero, suc, _+_, _^_, _≤_, _<_}
+-- A channel that nobody asks for stays free: for Reset. Assumes nothing.
+use Prim.Native.Nat.{ℕ, zero, suc, _+_, _^_, _≤_}
 use mathlib.Core.Path.{_≡_, refl, sym, ap, _∙_}
 use mathlib.Core.Bool.{Bool, cond, true, false, not, _&&_}
 use mathlib.Core.List.{List, [], _∷_, map}
 use native.Mathlib.Omega.{arith}
 use native.Mathlib.Decide.{decLe}
-use borrow.Author.Tests.{eqb-true, eqb-false, eq-eqb, not-true, lt-ltb}
+use borrow.Author.Tests.{eqb-true, eqb-false, eq-eqb, not-true}
 use lib.Dec.{eqb, ltb, leb}
 use lib.ListN.{length, getD, set, take, drop, List·getD-map}
 use lib.Seq.{getD-set-same, getD-set-other, set-out}
@@ -23,14 +23,14 @@ use Rattle.fields.specs.Fields.{commandOf}
 use Rattle.area.specs.Area.{areaBytes}
 use Rattle.mechanism.specs.Arguments.{armedBy}
 use Rattle.mechanism.specs.Datagram as datagrams
-use Rattle.connection.specs.State.{connectionCount, liveAt, isNotOpen, lowestDue}
+use Rattle.connection.specs.State.{liveAt, isNotOpen}
 use Rattle.connection.specs.Supervision.{fitsStep}
 use Rattle.connection.specs.declared.Connection.{Connection}
-use Rattle.subscription.specs.State.{entryCount, free, isMute, twinAt, lowestUnused, lowestWaiting}
+use Rattle.subscription.specs.State.{free, isMute, twinAt, lowestUnused}
 use Rattle.objects.specs.Methods.{lockMethod, unlockMethod, setMethod, addMethod, removeMethod, resetKeyMethod, placeOf, isObject, isLocking}
 use Rattle.objects.specs.Tests.{isForbidden, subscriptionFrom}
-use Rattle.objects.specs.Answers.{failedOf, answerWith}
-use Rattle.holders.specs.Holders.{ownerOf, isOther, holderObeys, sweptHolder}
+use Rattle.objects.specs.Answers.{failedOf}
+use Rattle.holders.specs.Holders.{ownerOf, holderObeys, sweptHolder}
 use Rattle.device.specs.State.{muteCount, freshOf, withSubscriptions, withHolders, withMechanism, openOf, sweepOf, closeOf, heardAt, sentAt, toldAt, beatingAt}
 use Rattle.device.specs.Time.{stepOf, tickStep, tickOf}
 use Rattle.device.specs.Run.{muteAt, statusOf, mutedOf, doneOf, answerOf, unchanged, ranBy}
@@ -43,29 +43,24 @@ use Rattle.device.specs.declared.Ticked.{Ticked}
 use Rattle.device.specs.declared.Ticking.{Ticking}
 use Rattle.device.specs.declared.Ticking.the-variants as ticks
 use Rattle.device.specs.declared.Ran.{Ran}
-use Rattle.device.proofs.Closures.{free-locks}
 use Rattle.device.proofs.Shapes.{target-is, status-allowed}
-use Rattle.device.proofs.Commands.{lock-other, lock-done}
 use Rattle.serve.specs.Serve.{ranWith, ranFirst, lastOf}
 use Rattle.serve.specs.Sound.{Ruled, commandsOf, keptAlive, soundOf}
-use Rattle.stream.specs.Machine.{Call, ask, handed, asked, none-held, glue, rules}
+use Rattle.stream.specs.Machine.{Call, handed, asked, none-held, glue, rules}
 use Rattle.stream.specs.Promise.{AllBytes}
 use Rattle.stream.specs.Lent.{flat, countsOf}
 use Rattle.endpoint.specs.State.{stateOf, freshState}
 use Rattle.endpoint.specs.Outcome.{Outcome}
 use Rattle.endpoint.specs.Deliver.{leastOutput}
-use Rattle.endpoint.specs.Take.{notifiedOf, sentOut, notifying, reminding, takenBy}
-use Rattle.reset.specs.Datagram.{datagramCall}
+use Rattle.endpoint.specs.Take.{notifiedOf}
 use Rattle.endpoint.specs.declared.Record.{Record}
 use Rattle.promise.specs.Rulebook as ruling
-use Rattle.promise.specs.Rulebook.{Ask, opening, closing, ticking, taking, datagram, Asked, Given, messageBy, openBy, closeBy, takeBy, resetBy, rule, shut}
+use Rattle.promise.specs.Rulebook.{Ask, opening, closing, ticking, taking, datagram, Asked, Given, messageBy, openBy, closeBy, resetBy, rule, shut}
 use Rattle.promise.specs.Stream.{runCalls, machine}
-use Rattle.promise.specs.Technician.{lockStatus}
-use Rattle.promise.specs.Reset.{asksWith, asksOver, asksIn, asksFor, nobodyAsks, aReset, RackFreeAgain}
-use Rattle.promise.proofs.Lives.{getD-alike}
-use Rattle.promise.proofs.Keeps.{stream-theorem}
-use Rattle.promise.proofs.Resets.{leaves, anew}
-use Rattle.promise.proofs.Technicians.{locked-out}
+use Rattle.promise.specs.Reset.{asksWith, asksOver, asksIn, asksFor, nobodyAsks}
+use Rattle.promise.proofs.OpenConnections.{getD-alike}
+use Rattle.promise.proofs.Ways.{take-ways}
+use Rattle.promise.proofs.Stream.{stream-theorem}
 
 -- ---- a holder at a place
 swept-none : (cs : List Connection) → sweptHolder cs 0 ≡ 0
@@ -165,12 +160,12 @@ sound-free d at n m e a =
     go false q = e
 
 -- ---- a call
-fresh-free : (reading at : ℕ) → getD (freshOf reading .holders) at 0 ≡ 0
+pub fresh-free : (reading at : ℕ) → getD (freshOf reading .holders) at 0 ≡ 0
 unfolding freshOf
 fresh-free reading at = getD-alike 0 muteCount at
 
 whole-free : (d : Device) (at : ℕ) (w : Asked) → getD (d .holders) at 0 ≡ 0 → asksFor at w ≡ false → getD (rule d w .0 .holders) at 0 ≡ 0
-unfolding rule asksFor asksIn messageBy openBy closeBy ruling.tickBy takeBy resetBy takenBy notifying reminding sentOut notifiedOf sentAt toldAt openOf closeOf sweepOf tickStep
+unfolding rule asksFor asksIn messageBy openBy closeBy ruling.tickBy resetBy notifiedOf sentAt toldAt openOf closeOf sweepOf tickStep
 whole-free d at (handed n m out) e a = go (decide m) a
   where
     go : (x : Decision) → asksIn x at m ≡ false → getD (messageBy x d n m out .0 .holders) at 0 ≡ 0
@@ -201,14 +196,8 @@ whole-free d at (asked (ticking reading)) e a = go (tickOf d reading .answer)
         (either P (all (fitsStep (stepOf reading (d .reading))) (d .connections)) _ _ (swept-free _ (d .holders) at e) e)
     go ticks.ClockBack = e
     go ticks.Overrun = e
-whole-free d at (asked (taking out)) e a = go (ltb (length out) leastOutput)
-  where
-    P : Outcome → Type 0
-    P o = getD (o .state .device .holders) at 0 ≡ 0
-
-    go : (b : Bool) → getD (takeBy b d out .0 .holders) at 0 ≡ 0
-    go true = e
-    go false = either P (ltb (lowestWaiting (d .subscriptions)) entryCount) _ _ e (either P (ltb (lowestDue (d .connections)) connectionCount) _ _ e e)
+whole-free d at (asked (taking out)) e a =
+    take-ways (λ (x : Device). getD (x .holders) at 0 ≡ 0) d out (ltb (length out) leastOutput) e e e
 whole-free d at (asked (datagram g)) e a = go (datagrams.resets (d .mechanism) g)
   where
     go : (b : Bool) → getD (resetBy b d .0 .holders) at 0 ≡ 0
@@ -221,7 +210,7 @@ rules-free d at [] e a = e
 rules-free d at (w ∷ ws) e a =
     rules-free (rule d w .0) at ws (whole-free d at w e (not-true (asksFor at w) (and-left (not (asksFor at w)) _ a))) (and-right (not (asksFor at w)) _ a)
 
-calls-free : (reading : ℕ) (cs : List (Call Ask (List ℕ))) → AllBytes cs → (at : ℕ) → nobodyAsks at (glue shut none-held (machine (freshOf reading) none-held cs .1) .0) ≡ true
+pub calls-free : (reading : ℕ) (cs : List (Call Ask (List ℕ))) → AllBytes cs → (at : ℕ) → nobodyAsks at (glue shut none-held (machine (freshOf reading) none-held cs .1) .0) ≡ true
     → getD (runCalls (freshState reading) (zeros areaBytes) cs .0 .0 .device .holders) at 0 ≡ 0
 calls-free reading cs b at a =
     let d = freshOf reading in
@@ -231,38 +220,3 @@ calls-free reading cs b at a =
     ap (λ (x : (Record × List ℕ) × List Outcome). getD (x .0 .0 .device .holders) at 0) (same ∙ stream-theorem .real d none-held cs good b)
     ∙ sym (ap (λ (x : Device × List Given). getD (x .0 .holders) at 0) (stream-theorem .whole d none-held cs good b .same))
     ∙ rules-free d at (glue shut none-held (machine d none-held cs .1) .0) (fresh-free reading at) a
-
--- ---- after a reset
-unheld : (r : Record) (area g : List ℕ) → datagramCall r area g .answer ≡ aReset → (at : ℕ) → getD (datagramCall r area g .state .device .holders) at 0 ≡ 0
-unfolding freshState
-unheld r area g a at = ap (λ (x : Record). getD (x .device .holders) at 0) (leaves r area g a .0) ∙ fresh-free (r .device .reading) at
-
--- a lock that gets status 0 is held by whom asked
-lock-holder : (d : Device) (k at : ℕ) → k < 8 → at < length (d .holders) → at < 8 → lockStatus d k at ≡ 0
-    → getD (commands.runOf d k (4097 + at) lockMethod 0 [] .device .holders) at 0 ≡ k + 1
-unfolding ownerOf failedOf
-lock-holder d k at l h e s = go (isOther (getD (d .holders) at 0) k) refl
-  where
-    go : (b : Bool) → isOther (getD (d .holders) at 0) k ≡ b → getD (commands.runOf d k (4097 + at) lockMethod 0 [] .device .holders) at 0 ≡ k + 1
-    go true q =
-        let w : lockStatus d k at ≡ 3 = ap (λ (x : Ran). x .answer .status) (sym (lock-other d k at e (isOther (getD (d .holders) at 0) k) refl q (failedOf 3) refl)) in
-        absurd (omega (arith, s, w))
-    go false q =
-        ap (λ (x : Ran). getD (x .device .holders) at 0) (sym (lock-done d k at e (isOther (getD (d .holders) at 0) k) refl q (k + 1) (rw (lt-ltb k 8 l)) (answerWith []) refl))
-        ∙ getD-set-same (d .holders) at (k + 1) 0 h
-
-first-asks : (r : Record) (area g : List ℕ) (cs : List (Call Ask (List ℕ))) → datagramCall r area g .answer ≡ aReset → AllBytes cs → (k at : ℕ) → at < 8
-    → nobodyAsks at (glue shut none-held (machine (freshOf (r .device .reading)) none-held cs .1) .0) ≡ true
-    → lockStatus (runCalls r area (ask (datagram g) ∷ cs) .0 .0 .device) k at ≡ 0
-first-asks r area g cs e b k at h a =
-    free-locks _ k at h
-    (ap (λ (x : (Record × List ℕ) × List Outcome). getD (x .0 .0 .device .holders) at 0) (anew r area g cs e) ∙ calls-free (r .device .reading) cs b at a)
-
-pub rack-free-again : RackFreeAgain
-rack-free-again =
-    record {
-      unheld = unheld;
-      free = λ r area g a k at h. free-locks (datagramCall r area g .state .device) k at h (unheld r area g a at);
-      first = first-asks;
-      holds = λ d k j at l h e s n. locked-out _ k j at n h (lock-holder d k at l (omega arith) h s);
-    }

@@ -1,4 +1,4 @@
--- The mechanism apart from the rest of the device: nothing but 3.14 and a reset touches it, and nothing else looks at it. Assumes nothing.
+-- Nothing but 3.14 and a reset touches the mechanism, and nothing else looks at it: for ResetKey. Assumes nothing.
 use Prim.Native.Nat.{ℕ, zero, suc, _^_}
 use mathlib.Core.Path.{_≡_, refl, sym, ap, _∙_}
 use mathlib.Core.Bool.{Bool, cond, true, false, not, _&&_, and-false}
@@ -39,7 +39,7 @@ use Rattle.device.proofs.Shapes.{arm-at, status-allowed}
 use Rattle.replies.specs.Bytes.{responseBytes, keepAliveBytes}
 use Rattle.serve.specs.Serve.{ranWith, ranFirst, lastOf, responseTo, responsesOf}
 use Rattle.serve.specs.Sound.{Ruled, ruled, commandsOf, keptAlive, soundOf}
-use Rattle.promise.specs.Key.{isArming, keyedBy, keyedWith, keyedOver, keyedIn}
+use Rattle.promise.specs.ResetKey.{isArming, keyedBy, keyedWith, keyedOver, keyedIn}
 
 -- ---- a command that arms
 both-not : (a b : Bool) → (not a && not b) ≡ eqb (cond {A = ℕ} a 4 (cond b 7 0)) 0

@@ -1,40 +1,38 @@
--- Every record and area to which rows 1 and 2 do not apply is a device with some bytes held. Assumes nothing.
-use Prim.Native.Nat.{ℕ, zero, suc, _+_, _-_, _*_, _≤_, _<_}
+-- Every record and area that rows 1 and 2 do not refuse is a device with some bytes held: for Kept, Stream and Closure. Assumes nothing.
+use Prim.Native.Nat.{ℕ, zero, suc, _-_, _≤_, _<_}
 use mathlib.Core.Path.{_≡_, refl, sym, ap, _∙_}
-use mathlib.Core.Bool.{Bool, cond, true, false, not, _&&_, true≢false}
+use mathlib.Core.Bool.{Bool, cond, true, false, not, true≢false}
 use mathlib.Core.List.{List, [], _∷_, _++_}
 use native.Mathlib.Omega.{arith}
 use native.Mathlib.Nat.{not-suc-le-zero, le-of-suc-le-suc}
 use lib.Dec.{ltb, eqb}
-use lib.ListN.{length, take, drop, getD, length-drop, length-take, take-append-drop}
+use lib.ListN.{length, take, drop, getD, length-drop, take-append-drop}
 use lib.Seq.{take-take, take-all, length-take-le, ext-getD}
 use borrow.Author.Tests.{lt-ltb, le-ltb, ltb-true, ltb-false, eqb-true}
-use Rattle.laws.proofs.Conds.{and-left, and-right, cond-left}
+use Rattle.laws.proofs.Conds.{and-left, and-right}
 use Rattle.laws.proofs.Parts.{drop-take}
 use Rattle.octets.specs.Numbers.{Octets}
 use Rattle.octets.specs.Zeros.{zeros, allZero}
-use Rattle.octets.proofs.Scans.{zeros-of-all, length-zeros}
+use Rattle.octets.proofs.Scans.{zeros-of-all}
 use Rattle.octets.proofs.Digits.{octets-take, octets-drop}
 use Rattle.frame.specs.Decide.{decide, settled}
 use Rattle.frame.proofs.Bytes.{nil-waits}
 use Rattle.area.specs.Area.{partBytes, areaBytes, partAt, partSound, partsSound, areaSound, undecidedOf, countObeys, heldObeys}
 use Rattle.connection.specs.State.{liveAt}
 use Rattle.device.specs.Obeys.{deviceObeys}
-use Rattle.device.specs.declared.Device.{Device}
 use Rattle.stream.specs.Machine.{Held}
 use Rattle.stream.specs.Lent.{partHolding, flat, countsOf}
 use Rattle.stream.proofs.Lent.{length-counted, getD-counted}
 use Rattle.stream.proofs.Bytes.{octets-nil}
-use Rattle.device.specs.State.{livesIn}
 use Rattle.endpoint.specs.State.{recordObeys}
+use Rattle.device.specs.State.{livesIn}
 use Rattle.endpoint.specs.Deliver.{heldAt}
-use Rattle.endpoint.specs.declared.Record.{Record}
 use Rattle.area.specs.Scaffold.{Lying}
+use Rattle.endpoint.specs.declared.Record.{Record}
 use Rattle.area.proofs.Lies.{area-long, part-at, lies}
 use Rattle.area.proofs.Gathers.{length-undecided}
-use Rattle.promise.specs.Rulebook.{Fine}
 use Rattle.promise.specs.Kept.{Kept}
-use Rattle.promise.proofs.Lives.{GoodAt, lives-get, length-lives}
+use Rattle.promise.proofs.OpenConnections.{GoodAt, lives-get, length-lives}
 
 -- parts, one behind another
 flat-parts : (h : Held) (n : ℕ) (a : List ℕ) → length a ≡ partAt n → ((c : ℕ) → c < n → take partBytes (drop (partAt c) a) ≡ partHolding (h c)) → flat h n ≡ a

@@ -1,42 +1,40 @@
--- The calls that are no delivery, on a lent state, are the machine over pieces. Assumes nothing.
-use Prim.Native.Nat.{ℕ, zero, suc, _+_, _-_, _^_, _≤_, _<_}
-use mathlib.Core.Path.{_≡_, refl, sym, ap, _∙_, fun-ext}
+-- Every call, on a lent state, is the step of the machine over pieces: for Kept, Stream and Closure. Assumes nothing.
+use Prim.Native.Nat.{ℕ}
+use mathlib.Core.Path.{_≡_, refl, sym, _∙_, fun-ext}
 use mathlib.Core.Bool.{Bool, cond, true, false, true≢false}
-use mathlib.Core.List.{List, [], _∷_, _++_, map}
-use native.Mathlib.Omega.{arith}
-use lib.Dec.{ltb, eqb, leb}
-use lib.ListN.{length, getD, set, length-map}
+use mathlib.Core.List.{List, [], _∷_, _++_}
+use lib.Dec.{ltb, eqb}
+use lib.ListN.{length, getD}
 use borrow.Author.Tests.{eqb-true, eqb-false}
-use Rattle.laws.specs.Lists.{all, mask}
 use Rattle.mechanism.specs.Datagram.{resets}
-use Rattle.area.specs.Area.{areaSound, partCleared, closedCleared, heldKept}
-use Rattle.connection.specs.State.{connectionCount, closed, liveAt, lowestDue}
-use Rattle.connection.specs.Supervision.{fitsStep, closesAt, connectionTicked}
+use Rattle.area.specs.Area.{partCleared, closedCleared, heldKept}
+use Rattle.connection.specs.State.{connectionCount, liveAt, lowestDue}
 use Rattle.frame.specs.Decide.{decide, settled}
 use Rattle.subscription.specs.State.{entryCount, lowestWaiting}
-use Rattle.device.specs.State.{freshOf, openOf, closeOf, sweepOf, sentAt, toldAt, livesIn}
-use Rattle.device.specs.Time.{stepOf, advanced, tickStep, tickOf}
+use Rattle.device.specs.State.{freshOf, openOf, closeOf, sentAt, livesIn}
+use Rattle.device.specs.Time.{tickOf}
 use Rattle.device.specs.declared.Device.{Device}
 use Rattle.device.specs.declared.Opening.{Opening}
 use Rattle.device.specs.declared.Opening.the-variants as opens
 use Rattle.device.specs.declared.Ticking.{Ticking}
 use Rattle.device.specs.declared.Ticking.the-variants as ticks
-use Rattle.device.specs.declared.Ticked.{Ticked}
-use Rattle.stream.specs.Machine.{Call, deliver, ask, Whole, handed, asked, Answer, more, denied, gave, Held, none-held, put, only, whole, delivered, step}
-use Rattle.stream.specs.Lent.{flat, countsOf, livesOf}
+use Rattle.stream.specs.Machine.{Call, deliver, ask, asked, Answer, Held, none-held, put, only, whole, delivered, step}
+use Rattle.stream.specs.Lent.{flat, countsOf}
 use Rattle.stream.proofs.Lent.{put-same, put-other, set-counted, clear-flat, closed-flat, held-counted, counted-none, flat-none}
-use Rattle.endpoint.specs.State.{stateOf, freshState, recordObeys, closedState}
+use Rattle.endpoint.specs.State.{stateOf, freshState, closedState}
 use Rattle.endpoint.specs.Outcome.{Outcome, outcome}
 use Rattle.endpoint.specs.Calls.{openedBy, openCall, closeCall, tickedBy, tickCall}
 use Rattle.endpoint.specs.Deliver.{leastOutput, takenIn, deliverCall}
-use Rattle.endpoint.specs.Take.{subscriptionAt, notifiedOf, sentOut, notifying, reminding, takenBy, takeCall}
+use Rattle.endpoint.specs.Take.{notifiedOf, sentOut, notifying, reminding, takenBy, takeCall}
 use Rattle.reset.specs.Datagram.{restarted, datagramCall}
 use Rattle.endpoint.specs.declared.Record.{Record}
 use Rattle.endpoint.proofs.States.{live-low}
 use Rattle.promise.specs.Rulebook as rules
-use Rattle.promise.specs.Rulebook.{Ask, opening, closing, ticking, taking, datagram, Given, given, rule, openBy, closeBy, takeBy, resetBy, open?, admit, shut, Fine, callOf, outcomeOf}
-use Rattle.promise.proofs.Lives.{GoodAt, record-obeys, only-same, live-closed, live-gone, live-alike, lives-sent, lives-told, open-still, lives-eight, fresh-shut}
-use Rattle.promise.proofs.Bridge.{small, area-sound, taken-told}
+use Rattle.promise.specs.Rulebook.{Ask, opening, closing, ticking, taking, datagram, Given, rule, openBy, closeBy, takeBy, resetBy, open?, admit}
+use Rattle.promise.specs.Calls.{callOf, outcomeOf}
+use Rattle.promise.proofs.OpenConnections.{GoodAt, record-obeys, only-same, live-closed, live-gone, live-alike, lives-sent, lives-notified, open-still, lives-eight, fresh-shut}
+use Rattle.promise.proofs.DeviceLaws.{length-tick}
+use Rattle.promise.proofs.Deliveries.{small, area-sound, taken-told}
 
 -- what the machine does with a call that is no delivery
 abbrev pub asks : Device → Held → Ask → (Device × Held) × Answer Given
@@ -104,16 +102,7 @@ module _ (d : Device) (h : Held) (good : GoodAt d h) where
 
   -- a tick keeps the number of connections
   pub length-ticked : (reading : ℕ) → length (tickOf d reading .device .connections) ≡ 8
-  unfolding tickStep sweepOf
-  length-ticked reading = go (leb (2 ^ 31) (stepOf reading (d .reading))) (all (fitsStep (stepOf reading (d .reading))) (d .connections))
-    where
-      go : (a b : Bool)
-          → length (cond {A = Ticked} a (record { device = d; answer = ticks.ClockBack })
-          (cond b (record { device = sweepOf (advanced d reading (map (connectionTicked (stepOf reading (d .reading))) (d .connections))); answer = ticks.Closed (mask (closesAt (stepOf reading (d .reading))) (d .connections)) })
-          (record { device = d; answer = ticks.Overrun })) .device .connections) ≡ 8
-      go true b = good .fine .eight
-      go false true = length-map (d .connections) (connectionTicked (stepOf reading (d .reading))) ∙ good .fine .eight
-      go false false = good .fine .eight
+  length-ticked reading = length-tick d reading ∙ good .fine .eight
 
   -- whoever is then not open has no count and no byte
   pub ticked-counts : (reading : ℕ) → heldKept (livesIn (tickOf d reading .device)) (countsOf h 8) ≡ countsOf (only (open? (tickOf d reading .device)) h) 8
@@ -134,11 +123,6 @@ module _ (d : Device) (h : Held) (good : GoodAt d h) where
       go ticks.ClockBack = rw same
       go ticks.Overrun = rw same
 
-  -- the device after a taking has the same connections open
-  notified-lives : (i : ℕ) → livesIn (notifiedOf d i) ≡ livesIn d
-  unfolding notifiedOf
-  notified-lives i = lives-sent (toldAt d i) (subscriptionAt d i .connection) ∙ lives-told d i
-
   pub take-told : (out : List ℕ) → Told d h (ask (taking out))
   unfolding callOf takeCall step whole rule outcomeOf takeBy takenBy notifying reminding sentOut
   take-told out = rw (record-obeys d h good) (go (ltb (length out) leastOutput))
@@ -148,7 +132,7 @@ module _ (d : Device) (h : Held) (good : GoodAt d h) where
           let q = ways b c (stateOf d []) out (lowestWaiting (d .subscriptions)) (lowestDue (d .connections)) in
           outcome (o .answer) (o .state) (flat h 8) (o .output)
           ≡ outcome (q .answer) (stateOf (q .state .device) (countsOf (only (open? (q .state .device)) h) 8)) (flat (only (open? (q .state .device)) h) 8) (q .output)
-      way true c = rw (alike (notifiedOf d (lowestWaiting (d .subscriptions))) (notified-lives (lowestWaiting (d .subscriptions))))
+      way true c = rw (alike (notifiedOf d (lowestWaiting (d .subscriptions))) (lives-notified d (lowestWaiting (d .subscriptions))))
       way false true = rw (alike (sentAt d (lowestDue (d .connections))) (lives-sent d (lowestDue (d .connections))))
       way false false = rw same
 

@@ -1,4 +1,4 @@
--- What a closure leaves of its connection, and what of the others. Assumes nothing.
+-- ClosureLeavesNothing: what a closure leaves of its connection, and what of the others. Assumes nothing.
 use Prim.Native.Nat.{ℕ, _+_, _-_, _≤_, _<_}
 use mathlib.Core.Path.{_≡_, refl, sym, ap, _∙_}
 use mathlib.Core.Logic.{⊎-elim}
@@ -49,12 +49,12 @@ use Rattle.promise.specs.Rulebook.{open?, bitOf}
 use Rattle.promise.specs.Kept.{Kept}
 use Rattle.promise.specs.Technician.{stepAt, passes}
 use Rattle.promise.specs.Closure.{areaPart, Left, Unmoved, Closed, New, ClosureLeavesNothing}
-use Rattle.promise.proofs.Lives.{GoodAt, live-still}
-use Rattle.promise.proofs.Bridge.{small}
-use Rattle.promise.proofs.Asks.{ticked-counts, ticked-area}
-use Rattle.promise.proofs.Laws.{mask-bit, mask-beyond}
-use Rattle.promise.proofs.Lents.{heldIn, kept-good, kept-counts, kept-area}
-use Rattle.promise.proofs.Technicians.{maskAt, Ticks, passed, ticked-at, never-idle}
+use Rattle.promise.proofs.OpenConnections.{GoodAt, live-still}
+use Rattle.promise.proofs.Deliveries.{small}
+use Rattle.promise.proofs.Calls.{ticked-counts, ticked-area}
+use Rattle.promise.proofs.Masks.{mask-bit, mask-beyond}
+use Rattle.promise.proofs.HeldBytes.{heldIn, kept-good, kept-counts, kept-area}
+use Rattle.promise.proofs.Ticks.{maskAt, Ticks, passed, ticked-at, never-idle}
 
 -- answers of which a number differs
 differ : (P : Type 0) (i : ℕ) (a b : List ℕ) → a ≡ b → eqb (getD a i 0) (getD b i 0) ≡ false → P
@@ -274,15 +274,15 @@ module _ (cs : List Connection) (n : ℕ) (z : liveAt cs n ≡ false) where
 module _ (r : Record) (area : List ℕ) (w : Kept r area) (n : ℕ) (p : openCall r .answer ≡ 0 ∷ n ∷ []) where
   -- what it did: n is the lowest free number
   record Opens : Type 0 where
-    some : any connections.isFree (r .device .connections) ≡ true
+    some : any connections.isNotOpen (r .device .connections) ≡ true
     number : lowestFree (r .device .connections) ≡ n
     state : openCall r .state ≡ stateOf (withConnections (r .device) (set (r .device .connections) n opened)) (r .held)
 
   opens : Opens
   unfolding openCall openedBy openOf
-  opens = go (any connections.isFree (r .device .connections)) refl
+  opens = go (any connections.isNotOpen (r .device .connections)) refl
     where
-      go : (b : Bool) → any connections.isFree (r .device .connections) ≡ b → Opens
+      go : (b : Bool) → any connections.isNotOpen (r .device .connections) ≡ b → Opens
       go true b =
           let q : _≡_ {A = List ℕ} (0 ∷ lowestFree (r .device .connections) ∷ []) (0 ∷ n ∷ []) = rw (w .obeys, b) at p in
           let e : lowestFree (r .device .connections) ≡ n = ap (λ (x : List ℕ). getD x 1 0) q in
@@ -292,13 +292,13 @@ module _ (r : Record) (area : List ℕ) (w : Kept r area) (n : ℕ) (p : openCal
   under : n < length (r .device .connections)
   under =
       rw (opens .number) at
-      (ltb-true (lowestFree (r .device .connections)) (length (r .device .connections)) (sym (any-index connections.isFree (r .device .connections)) ∙ opens .some))
+      (ltb-true (lowestFree (r .device .connections)) (length (r .device .connections)) (sym (any-index connections.isNotOpen (r .device .connections)) ∙ opens .some))
 
   shut : liveAt (r .device .connections) n ≡ false
-  unfolding liveAt connections.isFree
+  unfolding liveAt connections.isNotOpen
   shut =
       not-true _
-      (rw (opens .number) at (index-meets connections.isFree (r .device .connections) closed (rw (opens .number) under)))
+      (rw (opens .number) at (index-meets connections.isNotOpen (r .device .connections) closed (rw (opens .number) under)))
 
   new : New n r (openCall r .state) area
   unfolding locksOf subscriptionsOf noLocks noEntries recordObeys
@@ -328,8 +328,8 @@ closure-leaves-nothing =
     record {
       byHost = λ r area n w p. closed-by r area w n (closeCall r area n) (host r area w n p);
       byFault = λ r area n piece out taken number w p. closed-by r area w n (deliverCall r area n piece out) (fault r area w n piece out taken number p);
-      byTick = λ r area reading mask w p. tick-left r area w reading mask p;
-      byTickOthers = λ r area reading mask w p. tick-others r area w reading mask p;
-      reopened = λ r area n w p. new r area w n p;
-      openOthers = λ r area n w p. open-others r area w n p;
+      byTick = λ r area reading mask w. tick-left r area (w .kept) reading mask (w .answer);
+      byTickOthers = λ r area reading mask w. tick-others r area (w .kept) reading mask (w .answer);
+      reopened = λ r area n w. new r area (w .kept) n (w .answer);
+      openOthers = λ r area n w. open-others r area (w .kept) n (w .answer);
     }

@@ -1,5 +1,5 @@
--- The latest key counts, and the key stays inside. Assumes nothing.
-use Prim.Native.Nat.{ℕ, zero, suc, _+_}
+-- LatestKeyCounts and KeyStaysInside. Assumes nothing.
+use Prim.Native.Nat.{ℕ, zero, suc}
 use mathlib.Core.Path.{_≡_, refl, sym, ap, _∙_, subst}
 use mathlib.Core.Bool.{Bool, cond, true, false, not, _&&_}
 use mathlib.Core.List.{List, [], _∷_, _++_, map}
@@ -50,11 +50,13 @@ use Rattle.endpoint.specs.Take.{notifiedOf, sentOut, notifying, reminding, take
 use Rattle.reset.specs.Datagram.{datagramCall}
 use Rattle.endpoint.specs.declared.Record.{Record}
 use Rattle.promise.specs.Rulebook as ruling
-use Rattle.promise.specs.Rulebook.{Ask, opening, closing, ticking, taking, datagram, Asked, Given, messageBy, openBy, closeBy, takeBy, resetBy, rule, shut, callOf}
+use Rattle.promise.specs.Rulebook.{Ask, opening, closing, ticking, taking, datagram, Asked, Given, messageBy, openBy, closeBy, resetBy, rule, shut}
+use Rattle.promise.specs.Calls.{callOf}
 use Rattle.promise.specs.Stream.{runCalls, machine, GoodState}
-use Rattle.promise.specs.Key.{isArming, keyedBy, keyedWith, keyedOver, keyedIn, keyedMessage, latest, latestOver, LatestKeyCounts, AlikeButKey, Seen, seen, isNoReset, noReset, KeyStaysInside}
-use Rattle.promise.proofs.Frames.{arming, close-frame, open-frame, tick-frame, run-frame, sound-frame}
-use Rattle.promise.proofs.Keeps.{stream-theorem}
+use Rattle.promise.specs.ResetKey.{isArming, keyedBy, keyedWith, keyedOver, keyedIn, keyedMessage, latest, latestOver, LatestKeyCounts, AlikeButKey, Seen, seen, isNoReset, noReset, KeyStaysInside}
+use Rattle.promise.proofs.Mechanism.{arming, close-frame, open-frame, tick-frame, run-frame, sound-frame}
+use Rattle.promise.proofs.Ways.{take-ways}
+use Rattle.promise.proofs.Stream.{stream-theorem}
 
 -- ---- the latest key
 
@@ -65,7 +67,7 @@ sound-key : (d : Device) (n : ℕ) (m : List ℕ) → soundOf d n m .device .mec
 sound-key d n m = ap (λ (r : Ruled). r .device .mechanism) (sound-frame d (d .mechanism) n m)
 
 whole : (d : Device) (w : Asked) → rule d w .0 .mechanism ≡ latest (d .mechanism) w
-unfolding rule latest messageBy keyedMessage openBy closeBy ruling.tickBy takeBy resetBy takenBy notifying reminding sentOut notifiedOf sentAt toldAt freshOf closeOf sweepOf
+unfolding rule latest messageBy keyedMessage openBy closeBy ruling.tickBy resetBy notifiedOf sentAt toldAt freshOf closeOf sweepOf
 whole d (handed n m out) = go (decide m)
   where
     go : (x : Decision) → messageBy x d n m out .0 .mechanism ≡ keyedMessage x (d .mechanism) m
@@ -88,18 +90,8 @@ whole d (asked (ticking reading)) = go (tickOf d reading .answer)
     go (ticks.Closed mask) = ap (λ (o : Ticked). o .device .mechanism) (tick-frame d (d .mechanism) reading)
     go ticks.ClockBack = refl
     go ticks.Overrun = refl
-whole d (asked (taking out)) = go (ltb (length out) leastOutput)
-  where
-    way : (b c : Bool)
-        → cond {A = Outcome} b (notifying (stateOf d []) out (lowestWaiting (d .subscriptions)))
-        (cond c (reminding (stateOf d []) out (lowestDue (d .connections))) (outcome (0 ∷ 0 ∷ []) (stateOf d []) [] out)) .state .device .mechanism ≡ d .mechanism
-    way true c = refl
-    way false true = refl
-    way false false = refl
-
-    go : (b : Bool) → takeBy b d out .0 .mechanism ≡ d .mechanism
-    go true = refl
-    go false = way (ltb (lowestWaiting (d .subscriptions)) entryCount) (ltb (lowestDue (d .connections)) connectionCount)
+whole d (asked (taking out)) =
+    take-ways (λ (x : Device). x .mechanism ≡ d .mechanism) d out (ltb (length out) leastOutput) refl refl refl
 whole d (asked (datagram g)) = go (resets (d .mechanism) g)
   where
     go : (b : Bool) → resetBy b d .0 .mechanism ≡ cond b disarmed (d .mechanism)

@@ -1,29 +1,26 @@
--- The device of document 01 keeps the laws that the stream theorem asks. Assumes nothing.
-use Prim.Native.Nat.{ℕ, zero, suc, _+_, _-_, _*_, _/_, _%_, _^_, _≤_, _<_}
+-- The device keeps the laws that the stream theorem asks: for Kept, Stream and Ticks. Assumes nothing.
+use Prim.Native.Nat.{ℕ, _^_, _<_}
 use mathlib.Core.Path.{_≡_, refl, sym, ap, _∙_}
-use mathlib.Core.Bool.{Bool, cond, true, false, not, _&&_, true≢false}
-use mathlib.Core.List.{List, [], _∷_, map}
+use mathlib.Core.Bool.{Bool, cond, true, false, not, _&&_}
+use mathlib.Core.List.{List, map}
 use native.Mathlib.Omega.{arith}
-use native.Mathlib.Nat.{not-suc-le-zero, le-of-suc-le-suc}
 use lib.Dec.{ltb, eqb, leb}
 use lib.ListN.{length, getD, set, length-set, length-map, List·getD-map}
-use borrow.Author.Tests.{eqb-true, eqb-false}
+use borrow.Author.Tests.{eqb-true}
 use Rattle.laws.specs.Lists.{all, any, mask}
 use Rattle.octets.specs.Numbers.{Octets}
-use Rattle.frame.specs.Decide.{decide, taken, settled}
+use Rattle.frame.specs.Decide.{decide, taken}
 use Rattle.frame.specs.declared.Decision.{Decision}
 use Rattle.frame.specs.declared.Decision.the-variants.{Undecided, Faulty, Sound}
 use Rattle.frame.specs.Sound.{SoundAt}
 use Rattle.frame.proofs.Sounds.{sound-at}
 use Rattle.mechanism.specs.Datagram.{resets}
-use Rattle.connection.specs.State.{connectionCount, closed, opened, liveAt, isNotOpen, lowestFree, lowestDue}
+use Rattle.connection.specs.State.{closed, opened, liveAt, isNotOpen, lowestFree, lowestDue}
 use Rattle.connection.specs.Supervision.{fitsStep, closesAt, connectionTicked}
-use Rattle.connection.specs.Kept.{SupervisionKept}
 use Rattle.connection.specs.declared.Connection.{Connection}
 use Rattle.connection.proofs.Keeps.{supervision-kept}
-use Rattle.subscription.specs.State.{entryCount, lowestWaiting}
-use Rattle.device.specs.State.{freshOf, withConnections, openOf, closeOf, sweepOf, sentAt, toldAt, livesIn}
-use Rattle.device.specs.Obeys.{deviceObeys}
+use Rattle.subscription.specs.State.{lowestWaiting}
+use Rattle.device.specs.State.{freshOf, withConnections, openOf, closeOf, sweepOf, sentAt, toldAt}
 use Rattle.device.specs.Time.{stepOf, advanced, tickStep, tickOf}
 use Rattle.device.specs.declared.Device.{Device}
 use Rattle.device.specs.declared.Opened.{Opened}
@@ -33,18 +30,19 @@ use Rattle.device.specs.declared.Ticked.{Ticked}
 use Rattle.device.specs.declared.Ticking.{Ticking}
 use Rattle.device.specs.declared.Ticking.the-variants as ticks
 use Rattle.device.proofs.Keeps.{rules-kept}
-use Rattle.serve.specs.Sound.{Ruled, soundOf}
+use Rattle.serve.specs.Sound.{soundOf}
 use Rattle.serve.proofs.Keeps.{sound-kept}
-use Rattle.stream.specs.Machine.{Whole, handed, asked}
-use Rattle.stream.specs.Promise.{Decides, Apt, Laws}
-use Rattle.endpoint.specs.State.{stateOf}
-use Rattle.endpoint.specs.Outcome.{Outcome, outcome}
+use Rattle.stream.specs.Machine.{handed, asked}
+use Rattle.stream.specs.Promise.{Decides, Apt}
+use Rattle.stream.specs.Scaffold.{Laws}
 use Rattle.endpoint.specs.Deliver.{leastOutput}
-use Rattle.endpoint.specs.Take.{subscriptionAt, notifiedOf, sentOut, notifying, reminding, takenBy}
+use Rattle.endpoint.specs.Take.{subscriptionAt, notifiedOf}
 use Rattle.endpoint.proofs.States.{live-low}
 use Rattle.promise.specs.Rulebook as rules
-use Rattle.promise.specs.Rulebook.{Ask, opening, closing, ticking, taking, datagram, Asked, Given, given, messageBy, openBy, closeBy, takeBy, resetBy, rule, open?, admit, bitOf, shut, Fine}
-use Rattle.promise.proofs.Lives.{live-closed, live-gone, live-alike, live-sound, lives-sent, lives-told, open-still, fresh-shut}
+use Rattle.promise.specs.Rulebook.{opening, closing, ticking, taking, datagram, Asked, messageBy, openBy, closeBy, resetBy, rule, open?, admit, bitOf, shut, Fine}
+use Rattle.promise.proofs.OpenConnections.{live-closed, live-gone, live-alike, live-sound, lives-sent, open-still, fresh-shut, lives-notified}
+use Rattle.promise.proofs.Ways.{take-ways}
+use Rattle.promise.proofs.Masks.{mask-bit}
 
 admit-live : (d : Device) (n : ℕ) (out : List ℕ) → admit d n out ≡ 0 → liveAt (d .connections) n ≡ true
 unfolding admit
@@ -66,11 +64,11 @@ length-open d = go (any isNotOpen (d .connections))
     go true = length-set (d .connections) (lowestFree (d .connections)) opened
     go false = refl
 
-length-close : (d : Device) (n : ℕ) → length (closeOf d n .connections) ≡ length (d .connections)
+pub length-close : (d : Device) (n : ℕ) → length (closeOf d n .connections) ≡ length (d .connections)
 unfolding closeOf sweepOf
 length-close d n = length-set (d .connections) n closed
 
-length-tick : (d : Device) (reading : ℕ) → length (tickOf d reading .device .connections) ≡ length (d .connections)
+pub length-tick : (d : Device) (reading : ℕ) → length (tickOf d reading .device .connections) ≡ length (d .connections)
 unfolding tickStep sweepOf
 length-tick d reading = go (leb (2 ^ 31) (stepOf reading (d .reading))) (all (fitsStep (stepOf reading (d .reading))) (d .connections))
   where
@@ -109,20 +107,9 @@ keeps-message d n m out f l w o (Sound t) e =
     let q : t ≡ length m = sym (ap taken e) ∙ w .exactly in
     fine-sound d n m f o (rw q at (sound-at m t e)) l
 
-keeps-take : (d : Device) (out : List ℕ) → Fine d → (a : Bool) → Fine (takeBy a d out .0)
-unfolding takeBy takenBy notifying reminding sentOut notifiedOf
-keeps-take d out f true = f
-keeps-take d out f false = way (ltb (lowestWaiting (d .subscriptions)) entryCount) (ltb (lowestDue (d .connections)) connectionCount)
-  where
-    i : ℕ
-    i = lowestWaiting (d .subscriptions)
-
-    way : (b c : Bool)
-        → Fine (cond {A = Outcome} b (notifying (stateOf d []) out (lowestWaiting (d .subscriptions)))
-        (cond c (reminding (stateOf d []) out (lowestDue (d .connections))) (outcome (0 ∷ 0 ∷ []) (stateOf d []) [] out)) .state .device)
-    way true c = fine-sent (toldAt d (lowestWaiting (d .subscriptions))) (subscriptionAt d (lowestWaiting (d .subscriptions)) .connection) (fine-told d (lowestWaiting (d .subscriptions)) f)
-    way false true = fine-sent d (lowestDue (d .connections)) f
-    way false false = f
+fine-notified : (d : Device) (i : ℕ) → Fine d → Fine (notifiedOf d i)
+unfolding notifiedOf
+fine-notified d i f = fine-sent (toldAt d i) (subscriptionAt d i .connection) (fine-told d i f)
 
 keeps : (d : Device) (w : Asked) → Fine d → Apt rule open? admit d w → Fine (rule d w .0)
 unfolding rule openBy closeBy rules.tickBy resetBy
@@ -143,7 +130,9 @@ keeps d (asked (ticking reading)) f a = go (tickOf d reading .answer)
     go (ticks.Closed m) = record { obeys = rules-kept .ticking d reading (f .obeys); eight = length-tick d reading ∙ f .eight }
     go ticks.ClockBack = f
     go ticks.Overrun = f
-keeps d (asked (taking out)) f a = keeps-take d out f (ltb (length out) leastOutput)
+keeps d (asked (taking out)) f a =
+    take-ways Fine d out (ltb (length out) leastOutput) f (fine-notified d (lowestWaiting (d .subscriptions)) f)
+    (fine-sent d (lowestDue (d .connections)) f)
 keeps d (asked (datagram g)) f a = go (resets (d .mechanism) g)
   where
     go : (b : Bool) → Fine (resetBy b d .0)
@@ -151,32 +140,6 @@ keeps d (asked (datagram g)) f a = go (resets (d .mechanism) g)
     go false = f
 
 -- ---- tells
-
-bit-low : (m : ℕ) (b : Bool) → eqb ((cond b 1 0 + 2 * m) % 2) 1 ≡ b
-bit-low m true = let e : (1 + 2 * m) % 2 ≡ 1 = omega arith in rw e
-bit-low m false = let e : (0 + 2 * m) % 2 ≡ 0 = omega arith in rw e
-
-bit-half : (m : ℕ) (b : Bool) → (cond b 1 0 + 2 * m) / 2 ≡ m
-bit-half m true = omega arith
-bit-half m false = omega arith
-
-pub mask-bit : {A : Type 0} (p : A → Bool) (l : List A) (k : ℕ) (z : A) → k < length l → bitOf (mask p l) k ≡ p (getD l k z)
-unfolding bitOf
-mask-bit p [] k z h = absurd (not-suc-le-zero h)
-mask-bit p (x ∷ l) zero z h = bit-low (mask p l) (p x)
-mask-bit p (x ∷ l) (suc k) z h = rw (bit-half (mask p l) (p x)) (mask-bit p l k z (le-of-suc-le-suc h))
-
--- no bit behind the last element
-none-bit : (k : ℕ) → bitOf 0 k ≡ false
-unfolding bitOf
-none-bit zero = refl
-none-bit (suc k) = none-bit k
-
-pub mask-beyond : {A : Type 0} (p : A → Bool) (l : List A) (k : ℕ) → length l ≤ k → bitOf (mask p l) k ≡ false
-unfolding bitOf
-mask-beyond p [] k h = none-bit k
-mask-beyond p (x ∷ l) zero h = absurd (not-suc-le-zero h)
-mask-beyond p (x ∷ l) (suc k) h = rw (bit-half (mask p l) (p x)) (mask-beyond p l k (le-of-suc-le-suc h))
 
 -- a tick that is not refused
 closed-shape : (d : Device) (reading step m : ℕ) → tickStep d reading step .answer ≡ ticks.Closed m
@@ -238,7 +201,7 @@ message-tells d n m out k l (Faulty f t) = close-tells d n k l
 message-tells d n m out k l (Sound t) = live-sound d n m k ∙ l
 
 tells : (d : Device) (w : Asked) (k : ℕ) → Fine d → Apt rule open? admit d w → open? d k ≡ true → open? (rule d w .0) k ≡ not (shut w (rule d w .1) k)
-unfolding rule shut openBy closeBy resetBy takeBy takenBy notifying reminding sentOut notifiedOf
+unfolding rule shut openBy closeBy resetBy
 tells d (handed n m out) k f a l = message-tells d n m out k l (decide m)
 tells d (asked opening) k f a l = go (openOf d .answer)
   where
@@ -254,18 +217,11 @@ tells d (asked (ticking reading)) k f a l = tick-tells d reading k (low (f .eigh
   where
     low : length (d .connections) ≡ 8 → k < length (d .connections)
     low e = live-low (d .connections) k (length (d .connections)) l refl
-tells d (asked (taking out)) k f a l = go (ltb (length out) leastOutput)
-  where
-    way : (b c : Bool)
-        → liveAt (cond {A = Outcome} b (notifying (stateOf d []) out (lowestWaiting (d .subscriptions)))
-        (cond c (reminding (stateOf d []) out (lowestDue (d .connections))) (outcome (0 ∷ 0 ∷ []) (stateOf d []) [] out)) .state .device .connections) k ≡ true
-    way true c = live-alike d (notifiedOf d (lowestWaiting (d .subscriptions))) k (lives-sent (toldAt d (lowestWaiting (d .subscriptions))) (subscriptionAt d (lowestWaiting (d .subscriptions)) .connection) ∙ lives-told d (lowestWaiting (d .subscriptions))) ∙ l
-    way false true = live-alike d (sentAt d (lowestDue (d .connections))) k (lives-sent d (lowestDue (d .connections))) ∙ l
-    way false false = l
-
-    go : (b : Bool) → liveAt (takeBy b d out .0 .connections) k ≡ true
-    go true = l
-    go false = way (ltb (lowestWaiting (d .subscriptions)) entryCount) (ltb (lowestDue (d .connections)) connectionCount)
+tells d (asked (taking out)) k f a l =
+    let i = lowestWaiting (d .subscriptions) in
+    let n = lowestDue (d .connections) in
+    take-ways (λ (x : Device). liveAt (x .connections) k ≡ true) d out (ltb (length out) leastOutput) l
+    (live-alike d (notifiedOf d i) k (lives-notified d i) ∙ l) (live-alike d (sentAt d n) k (lives-sent d n) ∙ l)
 tells d (asked (datagram g)) k f a l = go (resets (d .mechanism) g)
   where
     go : (b : Bool) → let s = resetBy b d in liveAt (s .0 .connections) k ≡ not (eqb (getD (s .1 .answer) 1 0) 1)

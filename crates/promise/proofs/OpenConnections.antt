@@ -1,14 +1,14 @@
--- Which connections are open after each call. Assumes nothing.
+-- Which connections are open after each call: for Deliveries, Calls, DeviceLaws, HeldBytes and all theorems above them. Assumes nothing.
 use Prim.Native.Nat.{ℕ, zero, suc, _≤_, _<_}
 use mathlib.Core.Path.{_≡_, refl, sym, ap, _∙_, fun-ext}
-use mathlib.Core.Bool.{Bool, cond, true, false, not, _&&_, true≢false}
-use mathlib.Core.List.{List, [], _∷_, map}
+use mathlib.Core.Bool.{Bool, cond, true, false}
+use mathlib.Core.List.{List, [], _∷_}
 use native.Mathlib.Omega.{arith}
 use native.Mathlib.Decide.{decLe}
 use lib.Seq.{getD-set-same, getD-set-other, set-out, ext-getD}
-use lib.Dec.{eqb, leb}
+use lib.Dec.{eqb}
 use lib.ListN.{length, getD, set, replicate, List·getD-map, length-map}
-use borrow.Author.Tests.{eqb-true, eqb-false, eq-eqb, le-leb}
+use borrow.Author.Tests.{eqb-true, eqb-false, le-leb}
 use Rattle.frame.specs.Limits.{greatestSize}
 use Rattle.frame.specs.Decide.{decide, settled}
 use Rattle.frame.proofs.Ways.{deciding, unsettled}
@@ -17,19 +17,18 @@ use Rattle.laws.specs.Lists.{any}
 use Rattle.connection.specs.State.{connectionCount, closed, opened, liveAt, isNotOpen, lowestFree, isLive}
 use Rattle.connection.specs.declared.Connection.{Connection}
 use Rattle.device.specs.State.{freshOf, withConnections, openOf, closeOf, sentAt, toldAt, livesIn}
-use Rattle.device.specs.Obeys.{deviceObeys}
-use Rattle.device.specs.Closure.{ClosureFrees, Gone}
 use Rattle.device.specs.declared.Device.{Device}
 use Rattle.device.specs.declared.Opened.{Opened}
 use Rattle.device.specs.declared.Opening.the-variants.{Number, Full}
-use Rattle.serve.specs.Sound.{Ruled, soundOf}
+use Rattle.serve.specs.Sound.{soundOf}
 use Rattle.serve.proofs.Keeps.{sound-kept}
 use Rattle.device.proofs.Closures.{closure-frees}
-use Rattle.stream.specs.Machine.{Held, put, only}
-use Rattle.stream.specs.Lent.{flat, countsOf, livesOf}
+use Rattle.stream.specs.Machine.{Held, only}
+use Rattle.stream.specs.Lent.{countsOf}
+use Rattle.stream.specs.Scaffold.{livesOf}
 use Rattle.stream.specs.Promise.{Good}
-use Rattle.stream.proofs.Lent.{put-same, put-other, length-counted, getD-counted, length-lives-of, getD-lives-of}
-use Rattle.stream.proofs.Stream.{put-elim}
+use Rattle.stream.proofs.Lent.{getD-counted, length-lives-of, getD-lives-of}
+use Rattle.endpoint.specs.Take.{subscriptionAt, notifiedOf}
 use Rattle.endpoint.specs.State.{stateOf, recordObeys}
 use Rattle.promise.specs.Rulebook.{rule, open?, admit, shut, Fine}
 
@@ -105,6 +104,10 @@ lives-sent d n = sound-kept .sent-living d n
 pub lives-told : (d : Device) (i : ℕ) → livesIn (toldAt d i) ≡ livesIn d
 unfolding livesIn
 lives-told d i = sound-kept .told-living d i
+
+pub lives-notified : (d : Device) (i : ℕ) → livesIn (notifiedOf d i) ≡ livesIn d
+unfolding notifiedOf
+lives-notified d i = lives-sent (toldAt d i) (subscriptionAt d i .connection) ∙ lives-told d i
 
 -- who is open stays open when another is opened
 pub live-still : (d : Device) (i k : ℕ) → liveAt (d .connections) k ≡ true → liveAt (set (d .connections) i opened) k ≡ true

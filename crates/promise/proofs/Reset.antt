@@ -1,11 +1,11 @@
--- A reset by key: exactly when, what it leaves, and what follows. Assumes nothing.
-use Prim.Native.Nat.{ℕ}
+-- ResetByKey and RackFreeAgain. Assumes nothing.
+use Prim.Native.Nat.{ℕ, _+_, _<_}
 use mathlib.Core.Path.{_≡_, refl, sym, ap, _∙_, fun-ext}
 use mathlib.Core.Bool.{Bool, true, false}
 use mathlib.Core.List.{List, [], _∷_}
-use borrow.Author.Tests.{eq-eqb}
+use borrow.Author.Tests.{eq-eqb, lt-ltb}
 use lib.Dec.{eqb}
-use lib.ListN.{getD}
+use lib.ListN.{getD, length}
 use Rattle.laws.proofs.Tables.{clash}
 use Rattle.octets.specs.Zeros.{zeros}
 use Rattle.area.specs.Area.{areaBytes, areaSound}
@@ -15,16 +15,32 @@ use Rattle.mechanism.specs.declared.Mechanism.{Mechanism}
 use Rattle.mechanism.proofs.Kept.{resets-exactly}
 use Rattle.device.specs.State.{freshOf}
 use Rattle.device.specs.declared.Device.{Device}
-use Rattle.stream.specs.Machine.{Call, ask, Held, none-held, only, whole, step}
+use Rattle.stream.specs.Machine.{Call, ask, Held, none-held, only, whole, step, glue}
 use Rattle.endpoint.specs.State.{freshState, recordObeys}
 use Rattle.numbers.specs.Refusal.{badRecord, badArea}
 use Rattle.endpoint.specs.Outcome.{Outcome, outcome, refused}
 use Rattle.reset.specs.Datagram.{restarted, datagramCall}
 use Rattle.endpoint.specs.declared.Record.{Record}
-use Rattle.promise.specs.Rulebook.{Ask, datagram, rule, open?, admit, resetBy, callOf}
-use Rattle.promise.specs.Stream.{runCalls}
-use Rattle.promise.specs.Reset.{Matches, aReset, ResetByKey}
-use Rattle.promise.proofs.Lives.{fresh-shut}
+use Rattle.promise.specs.Rulebook.{Ask, datagram, rule, open?, admit, resetBy, shut}
+use Rattle.promise.specs.Calls.{callOf}
+use Rattle.promise.specs.Stream.{runCalls, machine}
+use Rattle.promise.specs.Reset.{Matches, Resets, ResetByKey, nobodyAsks, RackFreeAgain}
+use Rattle.promise.proofs.OpenConnections.{fresh-shut}
+use native.Mathlib.Omega.{arith}
+use lib.Seq.{getD-set-same}
+use Rattle.subscription.specs.State.{free}
+use Rattle.objects.specs.Methods.{lockMethod}
+use Rattle.objects.specs.Answers.{failedOf, answerWith}
+use Rattle.holders.specs.Holders.{ownerOf, isOther}
+use Rattle.device.specs.Run as commands
+use Rattle.device.specs.declared.Ran.{Ran}
+use Rattle.device.proofs.Closures.{free-locks}
+use Rattle.device.proofs.Commands.{lock-other, lock-done}
+use Rattle.stream.specs.Promise.{AllBytes}
+use Rattle.promise.specs.Kept.{Accepted}
+use Rattle.promise.specs.Technician.{lockStatus}
+use Rattle.promise.proofs.Untouched.{locked-out}
+use Rattle.promise.proofs.Channels.{fresh-free, calls-free}
 
 module _ (r : Record) (area g : List ℕ) where
   -- each way of the call
@@ -45,10 +61,10 @@ module _ (r : Record) (area g : List ℕ) where
     unfolding datagramCall
     wrong m = rw (e, f, m)
 
-  told : (o : Outcome) → datagramCall r area g ≡ o → o .answer ≡ aReset → datagramCall r area g .answer ≡ aReset
+  told : (o : Outcome) → datagramCall r area g ≡ o → o .answer ≡ 0 ∷ 1 ∷ [] → Resets r area g
   told o q a = ap (λ (x : Outcome). x .answer) q ∙ a
 
-  not-reset : (o : Outcome) (P : Type 0) → datagramCall r area g ≡ o → eqb (getD (o .answer) 1 0) 1 ≡ false → datagramCall r area g .answer ≡ aReset → P
+  not-reset : (o : Outcome) (P : Type 0) → datagramCall r area g ≡ o → eqb (getD (o .answer) 1 0) 1 ≡ false → Resets r area g → P
   not-reset o P q n a =
       let k : getD (o .answer) 1 0 ≡ 1 = ap (λ (x : List ℕ). getD x 1 0) (sym (ap (λ (x : Outcome). x .answer) q) ∙ a) in
       clash P (eqb (getD (o .answer) 1 0) 1) (eq-eqb _ 1 k) n
@@ -62,7 +78,7 @@ module _ (r : Record) (area g : List ℕ) where
     sound : areaSound (r .held) area ≡ true
     match : datagrams.resets (r .device .mechanism) g ≡ true
 
-  way : datagramCall r area g .answer ≡ aReset → Way
+  way : Resets r area g → Way
   way a = go (recordObeys r) refl (areaSound (r .held) area) refl (datagrams.resets (r .device .mechanism) g) refl
     where
       go : (x : Bool) → recordObeys r ≡ x → (y : Bool) → areaSound (r .held) area ≡ y → (z : Bool) → datagrams.resets (r .device .mechanism) g ≡ z → Way
@@ -71,11 +87,11 @@ module _ (r : Record) (area g : List ℕ) where
       go true x true e false f = not-reset (outcome (0 ∷ 0 ∷ []) r area []) Way (wrong x e f) refl a
       go true x true e true f = record { obeys = x; sound = e; match = f }
 
-  done : datagramCall r area g .answer ≡ aReset → datagramCall r area g ≡ restarted r
+  done : Resets r area g → datagramCall r area g ≡ restarted r
   done a = let w = way a in right (w .obeys) (w .sound) (w .match)
 
   -- any other call changes nothing
-  stays : (datagramCall r area g .answer ≡ aReset → ⊥) → (datagramCall r area g .state ≡ r) × (datagramCall r area g .area ≡ area)
+  stays : ¬ Resets r area g → (datagramCall r area g .state ≡ r) × (datagramCall r area g .area ≡ area)
   unfolding restarted
   stays n = go (recordObeys r) refl (areaSound (r .held) area) refl (datagrams.resets (r .device .mechanism) g) refl
     where
@@ -89,25 +105,25 @@ module _ (r : Record) (area g : List ℕ) where
       go true x true e false f = both (outcome (0 ∷ 0 ∷ []) r area []) (wrong x e f) refl refl
       go true x true e true f = absurd (n (told (restarted r) (right x e f) refl))
 
-  nothing : recordObeys r ≡ true → areaSound (r .held) area ≡ true → (datagramCall r area g .answer ≡ aReset → ⊥) → datagramCall r area g ≡ outcome (0 ∷ 0 ∷ []) r area []
+  nothing : Accepted r area → ¬ Resets r area g → datagramCall r area g ≡ outcome (0 ∷ 0 ∷ []) r area []
   unfolding restarted
-  nothing e f n = go (datagrams.resets (r .device .mechanism) g) refl
+  nothing w n = go (datagrams.resets (r .device .mechanism) g) refl
     where
       go : (z : Bool) → datagrams.resets (r .device .mechanism) g ≡ z → datagramCall r area g ≡ outcome (0 ∷ 0 ∷ []) r area []
-      go true m = absurd (n (told (restarted r) (right e f m) refl))
-      go false m = wrong e f m
+      go true m = absurd (n (told (restarted r) (right (w .obeys) (w .sound) m) refl))
+      go false m = wrong (w .obeys) (w .sound) m
 
-resets : (r : Record) (area g : List ℕ) → Matches r area g → datagramCall r area g .answer ≡ aReset
+resets : (r : Record) (area g : List ℕ) → Matches r area g → Resets r area g
 unfolding restarted
-resets r area g w = told r area g (restarted r) (right r area g (w .obeys) (w .sound) (matching r area g w)) refl
+resets r area g w = told r area g (restarted r) (right r area g (w .accepted .obeys) (w .accepted .sound) (matching r area g w)) refl
 
-only-key : (r : Record) (area g : List ℕ) → datagramCall r area g .answer ≡ aReset → Matches r area g
+only-key : (r : Record) (area g : List ℕ) → Resets r area g → Matches r area g
 only-key r area g a =
     let w = way r area g a in
     let k = resets-exactly .only (r .device .mechanism) g (w .match) in
-    record { obeys = w .obeys; sound = w .sound; armed = k .0; bytes = k .1 }
+    record { accepted = record { obeys = w .obeys; sound = w .sound }; armed = k .0; bytes = k .1 }
 
-pub leaves : (r : Record) (area g : List ℕ) → datagramCall r area g .answer ≡ aReset
+leaves : (r : Record) (area g : List ℕ) → Resets r area g
     → (datagramCall r area g .state ≡ freshState (r .device .reading)) × (datagramCall r area g .area ≡ zeros areaBytes)
 unfolding restarted
 leaves r area g a = (ap (λ (o : Outcome). o .state) (done r area g a), ap (λ (o : Outcome). o .area) (done r area g a))
@@ -116,13 +132,13 @@ disarms : (reading : ℕ) → freshState reading .device .mechanism ≡ disarmed
 unfolding freshState freshOf
 disarms reading = refl
 
-once : (reading : ℕ) (area g : List ℕ) → (datagramCall (freshState reading) area g .answer ≡ aReset → ⊥)
+once : (reading : ℕ) (area g : List ℕ) → ¬ Resets (freshState reading) area g
 once reading area g a =
     let armed = only-key (freshState reading) area g a .armed in
     let k : freshState reading .device .mechanism .armed ≡ false = ap (λ (m : Mechanism). m .armed) (disarms reading) in
     clash ⊥ (freshState reading .device .mechanism .armed) armed k
 
-pub anew : (r : Record) (area g : List ℕ) (cs : List (Call Ask (List ℕ))) → datagramCall r area g .answer ≡ aReset
+anew : (r : Record) (area g : List ℕ) (cs : List (Call Ask (List ℕ))) → Resets r area g
     → runCalls r area (ask (datagram g) ∷ cs)
     ≡ (runCalls (freshState (r .device .reading)) (zeros areaBytes) cs .0, restarted r ∷ runCalls (freshState (r .device .reading)) (zeros areaBytes) cs .1)
 unfolding runCalls callOf restarted
@@ -149,4 +165,39 @@ reset-by-key =
       anew = anew;
       nobody = nobody;
       shutAll = fresh-shut;
+    }
+
+-- ---- after a reset
+unheld : (r : Record) (area g : List ℕ) → Resets r area g → (at : ℕ) → getD (datagramCall r area g .state .device .holders) at 0 ≡ 0
+unfolding freshState
+unheld r area g a at = ap (λ (x : Record). getD (x .device .holders) at 0) (leaves r area g a .0) ∙ fresh-free (r .device .reading) at
+
+-- a lock that gets status 0 is held by whom asked
+lock-holder : (d : Device) (k at : ℕ) → k < 8 → at < length (d .holders) → at < 8 → lockStatus d k at ≡ 0
+    → getD (commands.runOf d k (4097 + at) lockMethod 0 [] .device .holders) at 0 ≡ k + 1
+unfolding ownerOf failedOf
+lock-holder d k at l h e s = go (isOther (getD (d .holders) at 0) k) refl
+  where
+    go : (b : Bool) → isOther (getD (d .holders) at 0) k ≡ b → getD (commands.runOf d k (4097 + at) lockMethod 0 [] .device .holders) at 0 ≡ k + 1
+    go true q =
+        let w : lockStatus d k at ≡ 3 = ap (λ (x : Ran). x .answer .status) (sym (lock-other d k at e (isOther (getD (d .holders) at 0) k) refl q (failedOf 3) refl)) in
+        absurd (omega (arith, s, w))
+    go false q =
+        ap (λ (x : Ran). getD (x .device .holders) at 0) (sym (lock-done d k at e (isOther (getD (d .holders) at 0) k) refl q (k + 1) (rw (lt-ltb k 8 l)) (answerWith []) refl))
+        ∙ getD-set-same (d .holders) at (k + 1) 0 h
+
+first-asks : (r : Record) (area g : List ℕ) (cs : List (Call Ask (List ℕ))) → Resets r area g → AllBytes cs → (k at : ℕ) → at < 8
+    → nobodyAsks at (glue shut none-held (machine (freshOf (r .device .reading)) none-held cs .1) .0) ≡ true
+    → lockStatus (runCalls r area (ask (datagram g) ∷ cs) .0 .0 .device) k at ≡ 0
+first-asks r area g cs e b k at h a =
+    free-locks _ k at h
+    (ap (λ (x : (Record × List ℕ) × List Outcome). getD (x .0 .0 .device .holders) at 0) (anew r area g cs e) ∙ calls-free (r .device .reading) cs b at a)
+
+pub rack-free-again : RackFreeAgain
+rack-free-again =
+    record {
+      unheld = unheld;
+      free = λ r area g a k at h. free-locks (datagramCall r area g .state .device) k at h (unheld r area g a at);
+      first = first-asks;
+      holds = λ d k j at l h e s n. locked-out _ k j at n h (lock-holder d k at l (omega arith) h s);
     }

@@ -1,0 +1,50 @@
+-- The endpoint's calls as one function, and what each is to give.
+use Prim.Native.Nat.{ℕ}
+use mathlib.Core.List.{List, [], _∷_}
+use lib.ListN.{length}
+use Rattle.connection.specs.State.{connectionCount}
+use Rattle.device.specs.declared.Device.{Device}
+use Rattle.stream.specs.Machine.{Call, deliver, ask, Answer, more, denied, gave, Held}
+use Rattle.stream.specs.Lent.{flat, countsOf}
+use Rattle.endpoint.specs.State.{stateOf}
+use Rattle.endpoint.specs.Outcome.{Outcome, outcome}
+use Rattle.endpoint.specs.Calls.{openCall, closeCall, tickCall}
+use Rattle.endpoint.specs.Deliver.{deliverCall}
+use Rattle.endpoint.specs.Take.{takeCall}
+use Rattle.reset.specs.Datagram.{datagramCall}
+use Rattle.endpoint.specs.declared.Record.{Record}
+use Rattle.promise.specs.Rulebook.{Ask, opening, closing, ticking, taking, datagram, Given}
+
+-- a call of the host, whose room is the output lent
+abbrev pub HostCall : Type 0
+HostCall = Call Ask (List ℕ)
+
+-- the call, by the definition that its contract cites
+unfoldable pub callOf : Record → List ℕ → HostCall → Outcome
+callOf r area (deliver n piece out) = deliverCall r area n piece out
+callOf r area (ask opening) = outcome (openCall r .answer) (openCall r .state) area []
+callOf r area (ask (closing n)) = closeCall r area n
+callOf r area (ask (ticking reading)) = tickCall r area reading
+callOf r area (ask (taking out)) = outcome (takeCall r out .answer) (takeCall r out .state) area (takeCall r out .output)
+callOf r area (ask (datagram g)) = datagramCall r area g
+
+-- the numbers of a delivery that decided: 0, the kind, the bytes taken, the value
+unfoldable pub withTaken : ℕ → List ℕ → List ℕ
+withTaken k [] = []
+withTaken k (x ∷ rest) = 0 ∷ x ∷ k ∷ rest
+
+-- the record and the area of device d with h held
+abbrev pub recordWith : Device → Held → Record
+recordWith d h = stateOf d (countsOf h connectionCount)
+
+abbrev pub areaWith : Held → List ℕ
+areaWith h = flat h connectionCount
+
+-- what a call is to give, where the machine over pieces comes to device d with h held and that answer
+unfoldable pub outcomeOf : HostCall → Device → Held → Answer Given → Outcome
+outcomeOf (deliver n piece out) d h more = outcome (0 ∷ 1 ∷ length piece ∷ []) (recordWith d h) (areaWith h) out
+outcomeOf (deliver n piece out) d h (denied q) = outcome (q ∷ []) (recordWith d h) (areaWith h) out
+outcomeOf (deliver n piece out) d h (gave k o) = outcome (withTaken k (o .answer)) (recordWith d h) (areaWith h) (o .output)
+outcomeOf (ask a) d h more = outcome [] (recordWith d h) (areaWith h) []
+outcomeOf (ask a) d h (denied q) = outcome (q ∷ []) (recordWith d h) (areaWith h) []
+outcomeOf (ask a) d h (gave k o) = outcome (o .answer) (recordWith d h) (areaWith h) (o .output)
