@@ -1,56 +1,31 @@
 -- What each way of a delivery comes to. Assumes nothing.
-use Prim.Native.Nat.{ℕ, _+_, _-_, _≤_, _<_}
-use mathlib.Core.Path.{_≡_, refl, sym, ap, _∙_}
+use Prim.Native.Nat.{ℕ, _≤_, _<_}
+use mathlib.Core.Path.{_≡_, sym, ap, _∙_}
 use mathlib.Core.Bool.{Bool, true, false, not}
-use mathlib.Core.List.{List, _++_}
-use lib.ListN.{length, take, set, length-map}
-use lib.Seq.{sets}
-use Rattle.frame.specs.Decide.{decide}
-use Rattle.frame.specs.declared.Decision.the-variants.{Undecided, Faulty, Sound}
-use Rattle.layout.specs.Message.{atFront}
+use mathlib.Core.List.{List}
+use lib.ListN.{length, set, length-map}
 use borrow.Author.Tests.{lt-ltb, le-ltb, not-true, not-false}
 use Rattle.laws.proofs.Conds.{and-right}
-use Rattle.area.specs.Area.{partAt, areaSound, undecidedOf, partCleared, heldObeys}
+use Rattle.numbers.specs.Refusal.{badRecord, badArea, noConnection, noRoom}
+use Rattle.area.specs.Area.{areaSound, heldObeys}
 use Rattle.area.specs.Scaffold.{Lying}
 use Rattle.area.proofs.Lies.{lies}
-use Rattle.device.specs.Obeys.{deviceObeys}
 use Rattle.connection.specs.State.{liveAt, isLive}
-use Rattle.device.specs.declared.Device.{Device}
-use Rattle.serve.specs.Sound.{Ruled, soundOf}
 use Rattle.device.specs.State.{livesIn}
-use Rattle.endpoint.specs.State.{stateOf, recordObeys, closedState}
-use Rattle.numbers.specs.Refusal.{badRecord, badArea, noConnection, noRoom}
-use Rattle.answers.specs.Numbers.{deliveryNumbers}
+use Rattle.device.specs.Obeys.{deviceObeys}
+use Rattle.device.specs.declared.Device.{Device}
+use Rattle.replies.specs.Bytes.{leastOutput}
+use Rattle.delivery.specs.Intake.{Intake, intake, takenIn}
+use Rattle.endpoint.specs.State.{stateOf, recordObeys}
 use Rattle.endpoint.specs.Outcome.{Outcome, outcome, refused}
-use Rattle.endpoint.specs.Deliver.{leastOutput, heldAt, messaged, deliveredBy, takenIn, deliverCall}
+use Rattle.endpoint.specs.Deliver.{heldAt, withIntake, deliverCall}
 use Rattle.endpoint.specs.declared.Record.{Record}
-use Rattle.answers.specs.declared.Delivery.the-variants.{More, Message, Closed}
 use Rattle.endpoint.proofs.States.{live-low}
 
-pub messaged-is : (q : Ruled) (r : Record) (area : List ℕ) (n taken : ℕ) (out : List ℕ) (l : ℕ) (d : Device) (a o : List ℕ)
-    → l ≡ length (q .reply) → d ≡ q .device → a ≡ partCleared area n → o ≡ atFront (q .reply) out
-    → outcome (deliveryNumbers (Message taken l)) (stateOf d (set (r .held) n 0)) a o ≡ messaged q r area n taken out
-unfolding messaged
-messaged-is q r area n taken out l d a o e1 e2 e3 e4 = rw (e1, e2, e3, e4)
-
-module _ (r : Record) (area : List ℕ) (n k : ℕ) (piece out : List ℕ) where
-  pub taken-waits : (s : Record) (a : List ℕ) → decide (undecidedOf area n k ++ piece) ≡ Undecided
-      → s ≡ stateOf (r .device) (set (r .held) n (k + length piece)) → a ≡ sets area (partAt n + k) piece
-      → outcome (deliveryNumbers (More (length piece))) s a out ≡ takenIn r area n k piece out
-  unfolding takenIn deliveredBy
-  taken-waits s a e e1 e2 = rw (e, e1, e2)
-
-  pub taken-closed : (fault t : ℕ) (s : Record) (a : List ℕ) → decide (undecidedOf area n k ++ piece) ≡ Faulty fault t
-      → s ≡ closedState r n → a ≡ partCleared area n
-      → outcome (deliveryNumbers (Closed (t - k) fault)) s a out ≡ takenIn r area n k piece out
-  unfolding takenIn deliveredBy
-  taken-closed fault t s a e e1 e2 = rw (e, e1, e2)
-
-  pub taken-runs : (t : ℕ) (g : List ℕ) (o : Outcome) → decide (undecidedOf area n k ++ piece) ≡ Sound t
-      → undecidedOf g n t ≡ take t (undecidedOf area n k ++ piece) → partCleared g n ≡ partCleared area n
-      → o ≡ messaged (soundOf (r .device) n (undecidedOf g n t)) r g n (t - k) out → o ≡ takenIn r area n k piece out
-  unfolding takenIn deliveredBy messaged
-  taken-runs t g o e m a q = q ∙ rw (e, m, a)
+-- what the piece came to, put into the record
+pub brought-in : (r : Record) (n : ℕ) (x : List ℕ) (d : Device) (k : ℕ) (a o : List ℕ) (i : Intake) → intake x d k a o ≡ i
+    → outcome x (stateOf d (set (r .held) n k)) a o ≡ withIntake r n i
+brought-in r n x d k a o i e = ap (withIntake r n) e
 
 -- b, s and l are what the tests of the record, the area and the connection gave
 module _ (r : Record) (b : Bool) (tested : b ≡ recordObeys r) (area : List ℕ) (n : ℕ) (piece out : List ℕ) where
@@ -76,7 +51,8 @@ module _ (r : Record) (b : Bool) (tested : b ≡ recordObeys r) (area : List ℕ
         unfolding deliverCall
         deliver-room h = rw (← tested, not-false b t, sound, not-false s u, ← living, not-false l v, lt-ltb (length out) leastOutput h)
 
-        pub deliver-done : leastOutput ≤ length out → (o : Outcome) → o ≡ takenIn r area n (heldAt r n) piece out → o ≡ deliverCall r area n piece out
+        pub deliver-done : leastOutput ≤ length out → (o : Outcome)
+            → o ≡ withIntake r n (takenIn (r .device) area n (heldAt r n) piece out) → o ≡ deliverCall r area n piece out
         unfolding deliverCall
         deliver-done h o q = q ∙ rw (← tested, not-false b t, sound, not-false s u, ← living, not-false l v, le-ltb (length out) leastOutput h)
 

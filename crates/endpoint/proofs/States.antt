@@ -12,7 +12,7 @@ use borrow.Author.Tests.{eq-eqb, not-true, not-false}
 use Rattle.octets.specs.Zeros.{zeros}
 use Rattle.area.specs.Area.{areaBytes, areaSound, partCleared, closedCleared, heldKept}
 use Rattle.area.proofs.Lies.{area-long}
-use Rattle.connection.specs.State.{closed, liveAt}
+use Rattle.connection.specs.State.{liveAt}
 use Rattle.connection.specs.declared.Connection.{Connection}
 use Rattle.device.specs.State.{openOf, livesIn}
 use Rattle.device.specs.Time.{tickOf}

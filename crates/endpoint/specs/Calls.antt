@@ -1,7 +1,7 @@
 -- Opening, closing, ticking and clearing: document 01 'Time and supervision' and 'What calls refuse'.
 use Prim.Native.Nat.{ℕ}
-use mathlib.Core.Bool.{Bool, cond, not}
-use mathlib.Core.List.{List, [], _∷_}
+use mathlib.Core.Bool.{cond}
+use mathlib.Core.List.{List, []}
 use lib.ListN.{length}
 use lib.Dec.{eqb}
 use Rattle.octets.specs.Zeros.{zeros}

@@ -1,86 +1,43 @@
-// A delivery: gather, decide, and then wait, close or run.
+// A delivery: the refusals in their order, and then what the piece does.
 use crate::Delivered;
 use crate::Record;
 use answers::Delivery;
-use frame::Decision;
 ghost use mathlib.Core.Path.{_≡_};
-ghost use Prim.Native.Nat.{_-_, _<_, _≤_};
-ghost use lib.ListN.{length, set};
-ghost use Rattle.area.specs.Area.{undecidedOf};
-ghost use Rattle.area.specs.Scaffold.{Lying, MessageLies};
-ghost use Rattle.serve.specs.Sound.{soundOf};
-ghost use Rattle.endpoint.specs.State.{stateOf};
+ghost use Prim.Native.Nat.{_≤_};
+ghost use lib.ListN.{length};
 ghost use Rattle.answers.specs.Numbers.{deliveryNumbers};
+ghost use Rattle.area.specs.Scaffold.{Lying};
+ghost use Rattle.replies.specs.Bytes.{leastOutput};
+ghost use Rattle.delivery.specs.Intake.{takenIn};
 ghost use Rattle.endpoint.specs.Outcome.{outcome};
-ghost use Rattle.endpoint.specs.Deliver.{leastOutput, heldAt, messaged, takenIn, deliverCall};
+ghost use Rattle.endpoint.specs.Deliver.{heldAt, withIntake, deliverCall};
 
 impl Record {
-    fn with_held(mut self, at: usize, k: u16) -> Record
-        requires { ⌜ at < 8 ⌝ }
-        ensures { λ r. ⌜ r ≡ stateOf (self .device) (set (self .held) at k) ⌝ }
-    {
-        self.held[at] = k;
-        self
-    }
-
-    // The sound message of t bytes at the front of connection n's part, of which k were there before, is run; `used` bytes lie there.
-    fn run(
-        self,
-        area: &mut [u8],
-        n: u8,
-        k: usize,
-        t: usize,
-        used: usize,
-        output: &mut [u8],
-    ) -> Delivered
-        requires { ⌜ MessageLies (now area) n k t used × (leastOutput ≤ length (now output)) ⌝ }
-        ensures { λ r. ⌜ outcome (deliveryNumbers (r .answer)) (r .state) (now (area .exit)) (now (output .exit)) ≡ messaged (soundOf (self .device) n (undecidedOf (now (area .entry)) n t)) self (now (area .entry)) n (t - k) (now (output .entry)) ⌝ }
-    {
-        let at = n as usize;
-        let base = at * area::PART;
-        let end = base + t;
-        let device = self.device;
-        let ruling = serve::sound(device, n, &area[base..end], output);
-        area::clear_used(area, at, used);
-        let next = ruling.device;
-        let mut held = self.held;
-        held[at] = 0;
-        Delivered {
-            state: Record { device: next, held },
-            answer: Delivery::Message(t - k, ruling.length),
-        }
-    }
-
     // A piece of connection n, which is open.
-    fn take_in(self, area: &mut [u8], n: u8, piece: &[u8], output: &mut [u8]) -> Delivered
+    fn take_in(mut self, area: &mut [u8], n: u8, piece: &[u8], output: &mut [u8]) -> Delivered
         requires { ⌜ Lying (now area) n (heldAt self n) × (leastOutput ≤ length (now output)) ⌝ }
-        ensures { λ r. ⌜ outcome (deliveryNumbers (r .answer)) (r .state) (now (area .exit)) (now (output .exit)) ≡ takenIn self (now (area .entry)) n (heldAt self n) (now (piece .entry)) (now (output .entry)) ⌝ }
+        ensures { λ r. ⌜ outcome (deliveryNumbers (r .answer)) (r .state) (now (area .exit)) (now (output .exit))
+            ≡ withIntake self n
+            (takenIn (self .device) (now (area .entry)) n (heldAt self n) (now (piece .entry)) (now (output .entry))) ⌝ }
     {
         let at = n as usize;
+        let device = self.device;
         let held = self.held;
-        let k = held[at] as usize;
-        match area::gather(area, at, k, piece) {
-            Decision::Undecided => Delivered {
-                state: self.with_held(at, (k + piece.len()) as u16),
-                answer: Delivery::More(piece.len()),
-            },
-            Decision::Faulty(f, t) => {
-                area::clear_part(area, at);
-                Delivered {
-                    state: self.closed(n),
-                    answer: Delivery::Closed(t - k, f),
-                }
-            }
-            Decision::Sound(t) => {
-                let used = k + area::fitting(k, piece.len());
-                self.run(area, n, k, t, used, output)
-            }
+        let taken = delivery::take_in(device, held[at], area, n, piece, output);
+        let next = taken.device;
+        self.device = next;
+        self.held[at] = taken.held;
+        let answer = taken.answer;
+        Delivered {
+            state: self,
+            answer,
         }
     }
 
     // A piece of connection n's bytes: taken up to and including the first deciding byte.
     pub fn deliver(self, area: &mut [u8], n: u8, piece: &[u8], output: &mut [u8]) -> Delivered
-        ensures { λ r. ⌜ outcome (deliveryNumbers (r .answer)) (r .state) (now (area .exit)) (now (output .exit)) ≡ deliverCall self (now (area .entry)) n (now (piece .entry)) (now (output .entry)) ⌝ }
+        ensures { λ r. ⌜ outcome (deliveryNumbers (r .answer)) (r .state) (now (area .exit)) (now (output .exit))
+            ≡ deliverCall self (now (area .entry)) n (now (piece .entry)) (now (output .entry)) ⌝ }
     {
         if !self.obeys() {
             return Delivered {

@@ -5,7 +5,6 @@ use answers::Delivery;
 use answers::Opening;
 use answers::Taking;
 use answers::Ticking;
-use connection::Connection;
 use device::Device;
 ghost use mathlib.Core.Path.{_≡_};
 ghost use mathlib.Core.List.{[]};
@@ -182,7 +181,8 @@ impl Record {
     // Time passes for a record and an area that are not refused.
     fn pass(mut self, area: &mut [u8], reading: u32) -> Ticked
         requires { ⌜ length (now area) ≡ areaBytes ⌝ }
-        ensures { λ r. ⌜ outcome (tickingNumbers (r .answer)) (r .state) (now (area .exit)) [] ≡ tickedBy (tickOf (self .device) reading .answer) self (tickOf (self .device) reading) (now (area .entry)) ⌝ }
+        ensures { λ r. ⌜ outcome (tickingNumbers (r .answer)) (r .state) (now (area .exit)) []
+            ≡ tickedBy (tickOf (self .device) reading .answer) self (tickOf (self .device) reading) (now (area .entry)) ⌝ }
     {
         let held = self.held;
         let device = self.device;
@@ -214,7 +214,8 @@ impl Record {
 
     // Time passes, to a reading of the host's counter.
     pub fn tick(mut self, area: &mut [u8], reading: u32) -> Ticked
-        ensures { λ r. ⌜ outcome (tickingNumbers (r .answer)) (r .state) (now (area .exit)) [] ≡ tickCall self (now (area .entry)) reading ⌝ }
+        ensures { λ r. ⌜ outcome (tickingNumbers (r .answer)) (r .state) (now (area .exit)) []
+            ≡ tickCall self (now (area .entry)) reading ⌝ }
     {
         if !self.obeys() {
             return Ticked {

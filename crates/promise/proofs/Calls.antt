@@ -24,10 +24,12 @@ use Rattle.stream.proofs.Lent.{put-same, put-other, set-counted, clear-flat, cl
 use Rattle.endpoint.specs.State.{stateOf, freshState, closedState}
 use Rattle.endpoint.specs.Outcome.{Outcome, outcome}
 use Rattle.endpoint.specs.Calls.{openedBy, openCall, closeCall, tickedBy, tickCall}
-use Rattle.endpoint.specs.Deliver.{leastOutput, takenIn, deliverCall}
-use Rattle.endpoint.specs.Take.{notifiedOf, sentOut, notifying, reminding, takenBy, takeCall}
+use Rattle.replies.specs.Bytes.{leastOutput}
+use Rattle.delivery.specs.Intake.{takenIn}
+use Rattle.endpoint.specs.Deliver.{deliverCall, withIntake}
+use Rattle.taking.specs.Dispatch.{notifiedOf, notifying, reminding, takenBy, dispatched}
+use Rattle.endpoint.specs.Take.{takeCall, withDispatch}
 use Rattle.reset.specs.Datagram.{restarted, datagramCall}
-use Rattle.endpoint.specs.declared.Record.{Record}
 use Rattle.endpoint.proofs.States.{live-low}
 use Rattle.promise.specs.Rulebook as rules
 use Rattle.promise.specs.Rulebook.{Ask, opening, closing, ticking, taking, datagram, Given, rule, openBy, closeBy, takeBy, resetBy, open?, admit}
@@ -44,10 +46,6 @@ abbrev pub Told : Device → Held → Call Ask (List ℕ) → Type 0
 Told d h c =
     let s = step rule open? admit d h c in
     callOf (stateOf d (countsOf h 8)) (flat h 8) c ≡ outcomeOf c (s .0 .0) (s .0 .1) (s .1)
-
--- what a taking comes to, by whether an entry waits and a connection is due
-abbrev ways : Bool → Bool → Record → List ℕ → ℕ → ℕ → Outcome
-ways b c r out i n = cond b (notifying r out i) (cond c (reminding r out n) (outcome (0 ∷ 0 ∷ []) r [] out))
 
 module _ (d : Device) (h : Held) (good : GoodAt d h) where
   -- where no open connection was closed, the bytes are as they were
@@ -124,20 +122,19 @@ module _ (d : Device) (h : Held) (good : GoodAt d h) where
       go ticks.Overrun = rw same
 
   pub take-told : (out : List ℕ) → Told d h (ask (taking out))
-  unfolding callOf takeCall step whole rule outcomeOf takeBy takenBy notifying reminding sentOut
+  unfolding callOf takeCall step whole rule outcomeOf takeBy takenBy notifying reminding
   take-told out = rw (record-obeys d h good) (go (ltb (length out) leastOutput))
     where
       way : (b c : Bool)
-          → let o = ways b c (stateOf d (countsOf h 8)) out (lowestWaiting (d .subscriptions)) (lowestDue (d .connections)) in
-          let q = ways b c (stateOf d []) out (lowestWaiting (d .subscriptions)) (lowestDue (d .connections)) in
-          outcome (o .answer) (o .state) (flat h 8) (o .output)
-          ≡ outcome (q .answer) (stateOf (q .state .device) (countsOf (only (open? (q .state .device)) h) 8)) (flat (only (open? (q .state .device)) h) 8) (q .output)
+          → let q = takenBy b c d out (lowestWaiting (d .subscriptions)) (lowestDue (d .connections)) in
+          outcome (q .answer) (stateOf (q .device) (countsOf h 8)) (flat h 8) (q .output)
+          ≡ outcome (q .answer) (stateOf (q .device) (countsOf (only (open? (q .device)) h) 8)) (flat (only (open? (q .device)) h) 8) (q .output)
       way true c = rw (alike (notifiedOf d (lowestWaiting (d .subscriptions))) (lives-notified d (lowestWaiting (d .subscriptions))))
       way false true = rw (alike (sentAt d (lowestDue (d .connections))) (lives-sent d (lowestDue (d .connections))))
       way false false = rw same
 
       go : (a : Bool)
-          → let o = cond {A = Outcome} a (outcome (4 ∷ []) (stateOf d (countsOf h 8)) [] out) (takenBy (stateOf d (countsOf h 8)) out (lowestWaiting (d .subscriptions)) (lowestDue (d .connections))) in
+          → let o = cond {A = Outcome} a (outcome (4 ∷ []) (stateOf d (countsOf h 8)) [] out) (withDispatch (stateOf d (countsOf h 8)) (dispatched d out)) in
           let s = takeBy a d out in
           outcome (o .answer) (o .state) (flat h 8) (o .output)
           ≡ outcome (s .1 .answer) (stateOf (s .0) (countsOf (only (open? (s .0)) h) 8)) (flat (only (open? (s .0)) h) 8) (s .1 .output)
@@ -167,7 +164,7 @@ module _ (d : Device) (h : Held) (good : GoodAt d h) where
     where
       go : (l : Bool) → liveAt (d .connections) n ≡ l → (b : Bool)
           → let s = delivered rule open? admit (cond l (cond b 4 0) 3) (settled (decide (h n ++ p))) d h n p out in
-          cond {A = Outcome} l (cond b (outcome (4 ∷ []) (stateOf d (countsOf h 8)) (flat h 8) out) (takenIn (stateOf d (countsOf h 8)) (flat h 8) n (getD (countsOf h 8) n 0) p out))
+          cond {A = Outcome} l (cond b (outcome (4 ∷ []) (stateOf d (countsOf h 8)) (flat h 8) out) (withIntake (stateOf d (countsOf h 8)) n (takenIn d (flat h 8) n (getD (countsOf h 8) n 0) p out)))
           (outcome (3 ∷ []) (stateOf d (countsOf h 8)) (flat h 8) out)
           ≡ outcomeOf (deliver n p out) (s .0 .0) (s .0 .1) (s .1)
       go false e b = refl

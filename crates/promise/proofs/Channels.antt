@@ -51,8 +51,8 @@ use Rattle.stream.specs.Promise.{AllBytes}
 use Rattle.stream.specs.Lent.{flat, countsOf}
 use Rattle.endpoint.specs.State.{stateOf, freshState}
 use Rattle.endpoint.specs.Outcome.{Outcome}
-use Rattle.endpoint.specs.Deliver.{leastOutput}
-use Rattle.endpoint.specs.Take.{notifiedOf}
+use Rattle.replies.specs.Bytes.{leastOutput}
+use Rattle.taking.specs.Dispatch.{notifiedOf}
 use Rattle.endpoint.specs.declared.Record.{Record}
 use Rattle.promise.specs.Rulebook as ruling
 use Rattle.promise.specs.Rulebook.{Ask, opening, closing, ticking, taking, datagram, Asked, Given, messageBy, openBy, closeBy, resetBy, rule, shut}

@@ -41,10 +41,12 @@ use Rattle.stream.proofs.Stream.{put-elim}
 use Rattle.endpoint.specs.State.{stateOf, recordObeys, closedState}
 use Rattle.endpoint.specs.Outcome.{Outcome}
 use Rattle.endpoint.specs.Calls.{openedBy, openCall, closeCall, tickedBy, tickCall}
-use Rattle.endpoint.specs.Deliver.{leastOutput, heldAt, messaged, deliveredBy, takenIn, deliverCall}
+use Rattle.replies.specs.Bytes.{leastOutput}
+use Rattle.delivery.specs.Intake.{messaged, deliveredBy, takenIn}
+use Rattle.endpoint.specs.Deliver.{heldAt, deliverCall}
 use Rattle.endpoint.specs.declared.Record.{Record}
 use Rattle.endpoint.proofs.States.{live-low}
-use Rattle.endpoint.proofs.Takes.{index-meets}
+use Rattle.taking.proofs.Takes.{index-meets}
 use Rattle.promise.specs.Rulebook.{open?, bitOf}
 use Rattle.promise.specs.Kept.{Kept}
 use Rattle.promise.specs.Technician.{stepAt, passes}
@@ -183,7 +185,7 @@ module _ (r : Record) (area : List ℕ) (w : Kept r area) where
       go false l = differ _ 0 (3 ∷ []) (0 ∷ []) (rw (w .obeys, w .sound, l) at p) refl
 
   fault : (n : ℕ) (piece out : List ℕ) (taken number : ℕ) → deliverCall r area n piece out .answer ≡ 0 ∷ 3 ∷ taken ∷ number ∷ [] → Shuts n (deliverCall r area n piece out)
-  unfolding deliverCall takenIn deliveredBy messaged
+  unfolding deliverCall takenIn deliveredBy messaged closedState
   fault n piece out taken number p =
       go (liveAt (r .device .connections) n) refl (ltb (length out) leastOutput) refl (decide (undecidedOf area n (heldAt r n) ++ piece)) refl
     where

@@ -19,8 +19,9 @@ use Rattle.serve.specs.Sound.{soundOf}
 use Rattle.stream.specs.Machine.{deliver, Held, put, only, whole, delivered}
 use Rattle.stream.specs.Lent.{flat, countsOf}
 use Rattle.stream.proofs.Lent.{Small, put-same, put-other, getD-counted, set-counted, undecided-flat, clear-flat, put-flat, area-flat}
-use Rattle.endpoint.specs.State.{stateOf, closedState}
-use Rattle.endpoint.specs.Deliver.{messaged, deliveredBy, takenIn}
+use Rattle.endpoint.specs.Deliver.{withIntake}
+use Rattle.endpoint.specs.State.{stateOf}
+use Rattle.delivery.specs.Intake.{messaged, deliveredBy, takenIn}
 use Rattle.endpoint.specs.declared.Record.{Record}
 use Rattle.endpoint.proofs.States.{live-low}
 use Rattle.promise.specs.Rulebook.{messageBy, rule, open?, admit}
@@ -78,8 +79,9 @@ module _ (d : Device) (h : Held) (good : GoodAt d h) (n : ℕ) (live : liveAt (d
 
     by-decision : (x : Decision) → decide (h n ++ p) ≡ x
         → let s = delivered rule open? admit zero (settled x) d h n p out in
-        deliveredBy x (stateOf d (countsOf h 8)) (flat h 8) n (length (h n)) p (h n ++ p) out ≡ outcomeOf (deliver n p out) (s .0 .0) (s .0 .1) (s .1)
-    unfolding deliveredBy settled delivered outcomeOf whole rule messaged closedState withTaken taken messageBy
+        withIntake (stateOf d (countsOf h 8)) n (deliveredBy x d (flat h 8) n (length (h n)) p (h n ++ p) out)
+        ≡ outcomeOf (deliver n p out) (s .0 .0) (s .0 .1) (s .1)
+    unfolding deliveredBy settled delivered outcomeOf whole rule messaged withTaken taken messageBy
     by-decision Undecided e =
         let l : length (h n) + length p ≡ length (h n ++ p) = sym (length-append (h n) p) in
         let f : length (h n ++ p) ≤ partBytes = omega (arith, deciding .short (h n ++ p) e) in
@@ -89,7 +91,7 @@ module _ (d : Device) (h : Held) (good : GoodAt d h) (n : ℕ) (live : liveAt (d
     by-decision (Sound t) e =
         rw (e, decided (Sound t) e refl, emptied-counts, emptied-area, emptied-none (soundOf d n (take t (h n ++ p)) .device) (sound-kept (take t (h n ++ p))))
 
-    pub taken-told : takenIn (stateOf d (countsOf h 8)) (flat h 8) n (getD (countsOf h 8) n 0) p out
+    pub taken-told : withIntake (stateOf d (countsOf h 8)) n (takenIn d (flat h 8) n (getD (countsOf h 8) n 0) p out)
         ≡ (let s = delivered rule open? admit zero (settled (decide (h n ++ p))) d h n p out in outcomeOf (deliver n p out) (s .0 .0) (s .0 .1) (s .1))
     unfolding takenIn
     taken-told = rw (held-is, bytes-are) (by-decision (decide (h n ++ p)) refl)

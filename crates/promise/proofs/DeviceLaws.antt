@@ -35,8 +35,8 @@ use Rattle.serve.proofs.Keeps.{sound-kept}
 use Rattle.stream.specs.Machine.{handed, asked}
 use Rattle.stream.specs.Promise.{Decides, Apt}
 use Rattle.stream.specs.Scaffold.{Laws}
-use Rattle.endpoint.specs.Deliver.{leastOutput}
-use Rattle.endpoint.specs.Take.{subscriptionAt, notifiedOf}
+use Rattle.replies.specs.Bytes.{leastOutput}
+use Rattle.taking.specs.Dispatch.{subscriptionAt, notifiedOf}
 use Rattle.endpoint.proofs.States.{live-low}
 use Rattle.promise.specs.Rulebook as rules
 use Rattle.promise.specs.Rulebook.{opening, closing, ticking, taking, datagram, Asked, messageBy, openBy, closeBy, resetBy, rule, open?, admit, bitOf, shut, Fine}

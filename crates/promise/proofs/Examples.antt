@@ -31,12 +31,13 @@ use Rattle.device.specs.Time.{tickStep}
 use Rattle.device.specs.Run.{holderAt, muteAt, isHeldByOther, isSubscribed, isOutOfTurn, isFull, statusOf, mutedOf, doneOf, answerOf, ranBy, runOf}
 use Rattle.serve.specs.Serve.{ranWith, ranFirst, lastOf, responseTo, responsesOf}
 use Rattle.serve.specs.Sound.{commandsOf, keptAlive, soundOf}
-use Rattle.endpoint.specs.Take.{notifiedOf, sentOut, notifying, reminding, takenBy}
+use Rattle.taking.specs.Dispatch.{notifiedOf, notifying, reminding, takenBy}
+use Rattle.endpoint.specs.Take.{}
 use Rattle.promise.specs.Rulebook.{messageBy, openBy, closeBy, takeBy, resetBy, rule}
 use Rattle.promise.specs.Rulebook as rules
 use Rattle.promise.specs.Examples.{ExamplesWorked}
 use Rattle.promise.specs.ResetExamples.{ResetWorked}
 
 pub worked : ExamplesWorked × ResetWorked
-unfolding sameBytes isDot isDigit isLeading digitValue partIf oneDigit twoDigits threeDigits textPart onto textFields fourParts ofParts partsOf dottedOf keyIn textIn portIn isMisfit isMulticast isGroup isTextTaken addressOf isUntaken armedBy resets be16At be32At bytes16 bytes32 zeros formOf valueOf beatOf countFault fieldsFault headerFault leastEntry countPlace leastCount countFits entryFits entrySize entriesFill keepAliveFill dataSound decideData decideHeader decide entriesFrom entryBytes parametersOf methodAt commandOf notificationOf responseOf heartbeatOf heartbeatNumbers commandNumbers notificationNumbers responseNumbers messageOf readBy readOf hasEntry fieldsOf entryIn entryBy entries.entryOf partIn partBy partOf headBytes message atFront liveAt isNotOpen isDue fitsStep closesAt quietAfter connectionTicked heardOf sentOf setBeat beatingOf isMute isUnused isWaiting isTwin markedOf subscriptions.toldOf sweptOf placeOf isManager isObject isTelling isLocking isMuting isSubscribing hasMethod isForbidden countOf lengthOf isLengthBad isPairBad isMalformed subscriptionFrom isStrange isEmitterBad isMuteValue isValueBad classOf identificationOf replyOf failedOf answerWith ownerOf isOther holderObeys sweptHolder responseBytes subscriberBytes changeBytes notificationEntry notificationBytes heartbeatBytes keepAliveBytes freshOf openOf sweepOf closeOf heardAt sentAt toldAt beatingAt tickStep holderAt muteAt isHeldByOther isSubscribed isOutOfTurn isFull statusOf mutedOf doneOf answerOf ranBy runOf ranWith ranFirst lastOf responseTo responsesOf commandsOf keptAlive soundOf notifiedOf sentOut notifying reminding takenBy messageBy openBy closeBy rules.tickBy takeBy resetBy rule
+unfolding sameBytes isDot isDigit isLeading digitValue partIf oneDigit twoDigits threeDigits textPart onto textFields fourParts ofParts partsOf dottedOf keyIn textIn portIn isMisfit isMulticast isGroup isTextTaken addressOf isUntaken armedBy resets be16At be32At bytes16 bytes32 zeros formOf valueOf beatOf countFault fieldsFault headerFault leastEntry countPlace leastCount countFits entryFits entrySize entriesFill keepAliveFill dataSound decideData decideHeader decide entriesFrom entryBytes parametersOf methodAt commandOf notificationOf responseOf heartbeatOf heartbeatNumbers commandNumbers notificationNumbers responseNumbers messageOf readBy readOf hasEntry fieldsOf entryIn entryBy entries.entryOf partIn partBy partOf headBytes message atFront liveAt isNotOpen isDue fitsStep closesAt quietAfter connectionTicked heardOf sentOf setBeat beatingOf isMute isUnused isWaiting isTwin markedOf subscriptions.toldOf sweptOf placeOf isManager isObject isTelling isLocking isMuting isSubscribing hasMethod isForbidden countOf lengthOf isLengthBad isPairBad isMalformed subscriptionFrom isStrange isEmitterBad isMuteValue isValueBad classOf identificationOf replyOf failedOf answerWith ownerOf isOther holderObeys sweptHolder responseBytes subscriberBytes changeBytes notificationEntry notificationBytes heartbeatBytes keepAliveBytes freshOf openOf sweepOf closeOf heardAt sentAt toldAt beatingAt tickStep holderAt muteAt isHeldByOther isSubscribed isOutOfTurn isFull statusOf mutedOf doneOf answerOf ranBy runOf ranWith ranFirst lastOf responseTo responsesOf commandsOf keptAlive soundOf notifiedOf notifying reminding takenBy messageBy openBy closeBy rules.tickBy takeBy resetBy rule
 worked = (refl, refl)

@@ -24,7 +24,7 @@ use Rattle.connection.specs.declared.Connection.{Connection}
 use Rattle.connection.proofs.Keeps.{supervision-kept}
 use Rattle.subscription.specs.State.{isWaiting, toldOf, lowestWaiting}
 use Rattle.subscription.specs.declared.Subscription.{Subscription}
-use Rattle.replies.specs.Bytes.{keepAliveBytes, notificationBytes}
+use Rattle.replies.specs.Bytes.{keepAliveBytes, notificationBytes, leastOutput}
 use Rattle.device.specs.State.{heardAt, sentAt, toldAt, livesIn}
 use Rattle.device.specs.Obeys.{deviceObeys}
 use Rattle.device.specs.Run.{muteAt}
@@ -34,11 +34,13 @@ use Rattle.serve.specs.Sound.{soundOf}
 use Rattle.stream.specs.Machine.{ask}
 use Rattle.endpoint.specs.State.{stateOf, recordObeys}
 use Rattle.endpoint.specs.Calls.{tickCall}
-use Rattle.endpoint.specs.Deliver.{leastOutput, messaged, deliveredBy, takenIn, deliverCall}
-use Rattle.endpoint.specs.Take.{subscriptionAt, notifiedOf, sentOut, notifying, reminding, takenBy, takeCall}
+use Rattle.delivery.specs.Intake.{messaged, deliveredBy, takenIn}
+use Rattle.endpoint.specs.Deliver.{deliverCall}
+use Rattle.taking.specs.Dispatch.{subscriptionAt, notifiedOf, notifying, reminding, takenBy}
+use Rattle.endpoint.specs.Take.{takeCall, withDispatch}
 use Rattle.endpoint.specs.declared.Record.{Record}
 use Rattle.endpoint.proofs.States.{live-low}
-use Rattle.endpoint.proofs.Takes.{connection-obeys}
+use Rattle.taking.proofs.Takes.{connection-obeys}
 use Rattle.promise.specs.Rulebook.{ticking}
 use Rattle.promise.specs.Calls.{callOf}
 use Rattle.promise.specs.Kept.{Kept}
@@ -316,11 +318,11 @@ module _ (r : Record) (out : List ℕ) (turn : ReadyTake r out) where
   unfolding recordObeys
   held = and-right (deviceObeys (r .device)) (heldObeys (livesIn (r .device)) (r .held)) (y .obeys)
 
-  notified : any isWaiting (r .device .subscriptions) ≡ true → takeCall r out ≡ notifying r out (entry r)
+  notified : any isWaiting (r .device .subscriptions) ≡ true → takeCall r out ≡ withDispatch r (notifying (r .device) out (entry r))
   unfolding takeCall takenBy
   notified e = rw (y .obeys, le-ltb (length out) leastOutput (turn .room), sym waits ∙ e)
 
-  reminded : any isWaiting (r .device .subscriptions) ≡ false → any isDue (r .device .connections) ≡ true → takeCall r out ≡ reminding r out (lowestDue (r .device .connections))
+  reminded : any isWaiting (r .device .subscriptions) ≡ false → any isDue (r .device .connections) ≡ true → takeCall r out ≡ withDispatch r (reminding (r .device) out (lowestDue (r .device .connections)))
   unfolding takeCall takenBy
   reminded e f = rw (y .obeys, le-ltb (length out) leastOutput (turn .room), sym waits ∙ e, sym dues ∙ f)
 
@@ -330,7 +332,7 @@ module _ (r : Record) (out : List ℕ) (turn : ReadyTake r out) where
   ready-on d o l a b = record { obeys = and-both (deviceObeys d) (heldObeys (livesIn d) (r .held)) o (rw l held); eight = a; entries = b }
 
   told : any isWaiting (r .device .subscriptions) ≡ true → Sent r out
-  unfolding notifying sentOut notifiedOf sentAt toldAt waitingIn
+  unfolding notifying notifiedOf sentAt toldAt waitingIn
   told e =
       let d = r .device in
       let s = subscriptionAt d (entry r) in
@@ -357,7 +359,7 @@ module _ (r : Record) (out : List ℕ) (turn : ReadyTake r out) where
       }
 
   reminds : any isWaiting (r .device .subscriptions) ≡ false → any isDue (r .device .connections) ≡ true → Sent r out
-  unfolding reminding sentOut sentAt waitingIn
+  unfolding reminding sentAt waitingIn
   reminds e f =
       let d = r .device in
       let n = lowestDue (d .connections) in
@@ -390,12 +392,12 @@ module _ (r : Record) (out : List ℕ) (turn : ReadyTake r out) where
 
   -- the keep-alive of the lowest connection due
   reminding-is : (n H q : ℕ) → Paced (r .device) n H q true → any isWaiting (r .device .subscriptions) ≡ false → lowestDue (r .device .connections) ≡ n → Reminds r out n H
-  unfolding reminding sentOut sentAt liveAt isDue
+  unfolding reminding sentAt liveAt isDue
   reminding-is n H q w e f =
       let d = r .device in
       let low = live-low (d .connections) n 8 (w .live) (y .eight) in
       let z : eqb (connectionAt r n .beat) 0 ≡ false = rw (w .beat) (ne-eqb H 0 (λ z. omega (arith, w .above))) in
-      let k = told-form (connectionAt r n) (formed (connectionAt r n) (connection-obeys r (y .obeys) n (y .eight) low) z) in
+      let k = told-form (connectionAt r n) (formed (connectionAt r n) (connection-obeys (r .device) obeys n (y .eight) low) z) in
       let g = rw f at (reminded e (any-at isDue (d .connections) n closed refl (w .marked))) in
       record {
         heartbeat = heartbeatKept (connectionAt r n);

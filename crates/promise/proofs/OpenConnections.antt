@@ -28,7 +28,7 @@ use Rattle.stream.specs.Lent.{countsOf}
 use Rattle.stream.specs.Scaffold.{livesOf}
 use Rattle.stream.specs.Promise.{Good}
 use Rattle.stream.proofs.Lent.{getD-counted, length-lives-of, getD-lives-of}
-use Rattle.endpoint.specs.Take.{subscriptionAt, notifiedOf}
+use Rattle.taking.specs.Dispatch.{subscriptionAt, notifiedOf}
 use Rattle.endpoint.specs.State.{stateOf, recordObeys}
 use Rattle.promise.specs.Rulebook.{rule, open?, admit, shut, Fine}
 

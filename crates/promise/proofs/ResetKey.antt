@@ -45,8 +45,11 @@ use Rattle.stream.specs.Lent.{flat, countsOf}
 use Rattle.endpoint.specs.State.{stateOf, recordObeys, closedState}
 use Rattle.endpoint.specs.Outcome.{Outcome, outcome}
 use Rattle.endpoint.specs.Calls.{openedBy, openCall, closeCall, tickedBy, tickCall}
-use Rattle.endpoint.specs.Deliver.{leastOutput, messaged, deliveredBy, takenIn, deliverCall}
-use Rattle.endpoint.specs.Take.{notifiedOf, sentOut, notifying, reminding, takenBy, takeCall}
+use Rattle.replies.specs.Bytes.{leastOutput}
+use Rattle.delivery.specs.Intake.{messaged, deliveredBy, takenIn}
+use Rattle.endpoint.specs.Deliver.{deliverCall, withIntake}
+use Rattle.taking.specs.Dispatch.{notifiedOf, notifying, reminding, takenBy}
+use Rattle.endpoint.specs.Take.{takeCall, withDispatch}
 use Rattle.reset.specs.Datagram.{datagramCall}
 use Rattle.endpoint.specs.declared.Record.{Record}
 use Rattle.promise.specs.Rulebook as ruling
@@ -223,19 +226,25 @@ module _ (d : Device) (held : List ℕ) (a b : Mechanism) (w : Alike a b) where
       go ticks.ClockBack = same-as (6 ∷ []) area []
       go ticks.Overrun = same-as (7 ∷ []) area []
 
+  taken-follow : (x y : Bool) (out : List ℕ) (i n : ℕ)
+      → Follows (withDispatch (holding d held a) (takenBy x y (withMechanism d a) out i n)) (withDispatch (holding d held b) (takenBy x y (withMechanism d b) out i n))
+  unfolding takenBy notifying reminding notifiedOf sentAt toldAt muteAt
+  taken-follow true y out i n = follow (notifiedOf d i) held a b w _ _ _
+  taken-follow false true out i n = follow (sentAt d n) held a b w _ _ _
+  taken-follow false false out i n = same-as (0 ∷ 0 ∷ []) [] out
+
   take-follows : (out : List ℕ) → Follows (takeCall (holding d held a) out) (takeCall (holding d held b) out)
-  unfolding takeCall takenBy notifying reminding sentOut notifiedOf sentAt toldAt muteAt
+  unfolding takeCall
   take-follows out =
       rw obeys-alike
       (follow-cond (recordObeys (holding d held b)) _ _ _ _
       (follow-cond (ltb (length out) leastOutput) _ _ _ _ (same-as (4 ∷ []) [] out)
-      (follow-cond (ltb (lowestWaiting (d .subscriptions)) entryCount) _ _ _ _ (follow (notifiedOf d (lowestWaiting (d .subscriptions))) held a b w _ _ _)
-      (follow-cond (ltb (lowestDue (d .connections)) connectionCount) _ _ _ _ (follow (sentAt d (lowestDue (d .connections))) held a b w _ _ _) (same-as (0 ∷ 0 ∷ []) [] out))))
+      (taken-follow (ltb (lowestWaiting (d .subscriptions)) entryCount) (ltb (lowestDue (d .connections)) connectionCount) out (lowestWaiting (d .subscriptions)) (lowestDue (d .connections))))
       (same-as (1 ∷ []) [] out))
 
   by-decision : (area : List ℕ) (n : ℕ) (piece out : List ℕ) (k : ℕ) (xs : List ℕ) (x : Decision)
-      → Follows (deliveredBy x (holding d held a) area n k piece xs out) (deliveredBy x (holding d held b) area n k piece xs out)
-  unfolding deliveredBy messaged closedState
+      → Follows (withIntake (holding d held a) n (deliveredBy x (withMechanism d a) area n k piece xs out)) (withIntake (holding d held b) n (deliveredBy x (withMechanism d b) area n k piece xs out))
+  unfolding deliveredBy messaged
   by-decision area n piece out k xs Undecided = follow d _ a b w _ _ out
   by-decision area n piece out k xs (Faulty f t) = rw (close-frame d a n, close-frame d b n) (follow (closeOf d n) _ a b w _ _ out)
   by-decision area n piece out k xs (Sound t) =

@@ -21,7 +21,7 @@ use Rattle.stream.proofs.Cut.{recut}
 use Rattle.stream.proofs.Swap.{swap}
 use Rattle.endpoint.specs.State.{stateOf, freshState}
 use Rattle.endpoint.specs.Outcome.{Outcome}
-use Rattle.endpoint.specs.Deliver.{leastOutput}
+use Rattle.replies.specs.Bytes.{leastOutput}
 use Rattle.endpoint.specs.declared.Record.{Record}
 use Rattle.promise.specs.Rulebook.{Ask, rule, open?, admit, shut, Fine}
 use Rattle.promise.specs.Calls.{callOf}

@@ -45,8 +45,10 @@ use Rattle.device.proofs.Commands.{lock-other}
 use Rattle.endpoint.specs.State.{recordObeys, closedState}
 use Rattle.endpoint.specs.Outcome.{Outcome}
 use Rattle.endpoint.specs.Calls.{openedBy, openCall, closeCall}
-use Rattle.endpoint.specs.Deliver.{heldAt, messaged, deliveredBy, takenIn, deliverCall}
-use Rattle.endpoint.specs.Take.{subscriptionAt, notifiedOf, takeCall}
+use Rattle.delivery.specs.Intake.{messaged, deliveredBy, takenIn}
+use Rattle.endpoint.specs.Deliver.{heldAt, deliverCall}
+use Rattle.taking.specs.Dispatch.{subscriptionAt, notifiedOf}
+use Rattle.endpoint.specs.Take.{takeCall}
 use Rattle.reset.specs.Datagram.{datagramCall}
 use Rattle.endpoint.specs.declared.Record.{Record}
 use Rattle.promise.specs.Technician.{lockStatus}
@@ -261,8 +263,8 @@ module _ (n : ℕ) where
         P x = Same n d (x .device)
 
     delivered-same : (r : Record) (area piece xs out : List ℕ) → liveAt (r .device .connections) n ≡ true → (x : Decision)
-        → Same n (r .device) (deliveredBy x r area k (heldAt r k) piece xs out .state .device)
-    unfolding deliveredBy messaged closedState
+        → Same n (r .device) (deliveredBy x (r .device) area k (heldAt r k) piece xs out .device)
+    unfolding deliveredBy messaged
     delivered-same r area piece xs out l Undecided = same-refl (r .device)
     delivered-same r area piece xs out l (Faulty f t) = close-same (r .device) l
     delivered-same r area piece xs out l (Sound t) = sound-same (r .device) (take t xs)

@@ -13,7 +13,7 @@ use Rattle.device.specs.Time.{stepOf}
 use Rattle.device.specs.declared.Device.{Device}
 use Rattle.stream.specs.Machine.{handed, asked}
 use Rattle.numbers.specs.Refusal.{clockBack}
-use Rattle.endpoint.specs.Deliver.{leastOutput}
+use Rattle.replies.specs.Bytes.{leastOutput}
 use Rattle.promise.specs.Rulebook.{ticking, taking, Given, rule}
 
 -- what the rules give, and what the paper prints

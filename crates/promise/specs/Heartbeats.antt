@@ -20,11 +20,11 @@ use Rattle.area.specs.Area.{undecidedOf}
 use Rattle.connection.specs.State.{connectionCount, closed, liveAt, isDue, lowestDue}
 use Rattle.subscription.specs.State.{entryCount, isWaiting}
 use Rattle.device.specs.declared.Device.{Device}
-use Rattle.replies.specs.Bytes.{keepAliveBytes}
+use Rattle.replies.specs.Bytes.{keepAliveBytes, leastOutput}
 use Rattle.endpoint.specs.State.{recordObeys}
 use Rattle.device.specs.Time.{stepOf}
 use Rattle.endpoint.specs.Calls.{tickCall}
-use Rattle.endpoint.specs.Deliver.{leastOutput, heldAt, deliverCall}
+use Rattle.endpoint.specs.Deliver.{heldAt, deliverCall}
 use Rattle.endpoint.specs.Take.{takeCall}
 use Rattle.endpoint.specs.declared.Record.{Record}
 use Rattle.promise.specs.Kept.{Kept}

@@ -10,8 +10,7 @@ use Rattle.frame.specs.declared.Decision.{Decision}
 use Rattle.frame.specs.declared.Decision.the-variants.{Undecided, Faulty, Sound}
 use Rattle.layout.specs.Message.{atFront}
 use Rattle.mechanism.specs.Datagram.{resets}
-use Rattle.connection.specs.State.{liveAt, lowestDue}
-use Rattle.subscription.specs.State.{lowestWaiting}
+use Rattle.connection.specs.State.{liveAt}
 use Rattle.device.specs.State.{freshOf, openOf, closeOf}
 use Rattle.device.specs.Time.{tickOf}
 use Rattle.device.specs.Obeys.{deviceObeys}
@@ -21,11 +20,10 @@ use Rattle.device.specs.declared.Opening.the-variants as opens
 use Rattle.device.specs.declared.Ticking.{Ticking}
 use Rattle.device.specs.declared.Ticking.the-variants as ticks
 use Rattle.serve.specs.Sound.{soundOf}
+use Rattle.taking.specs.Dispatch.{dispatched}
 use Rattle.stream.specs.Machine.{Whole, handed, asked}
-use Rattle.endpoint.specs.State.{stateOf}
 use Rattle.numbers.specs.Refusal.{noConnection, noRoom, tableFull, clockBack, overrun}
-use Rattle.endpoint.specs.Deliver.{leastOutput}
-use Rattle.endpoint.specs.Take.{takenBy}
+use Rattle.replies.specs.Bytes.{leastOutput}
 
 -- the calls that are no delivery
 pub data Ask : Type 0 where
@@ -71,8 +69,8 @@ tickBy ticks.Overrun d e = (d, given (overrun ∷ []) [])
 unfoldable pub takeBy : Bool → Device → List ℕ → Device × Given
 takeBy true d out = (d, given (noRoom ∷ []) out)
 takeBy false d out =
-    let o = takenBy (stateOf d []) out (lowestWaiting (d .subscriptions)) (lowestDue (d .connections)) in
-    (o .state .device, given (o .answer) (o .output))
+    let s = dispatched d out in
+    (s .device, given (s .answer) (s .output))
 
 -- document 02 (ii), "After the reset the record is a fresh one at the last reading"; "any other changes nothing"
 unfoldable pub resetBy : Bool → Device → Device × Given

@@ -16,7 +16,7 @@ use Rattle.stream.specs.Promise.{AllBytes, Good, Streamed}
 use Rattle.stream.specs.Cut.{drips, comesTo}
 use Rattle.endpoint.specs.State.{freshState}
 use Rattle.endpoint.specs.Outcome.{Outcome}
-use Rattle.endpoint.specs.Deliver.{leastOutput}
+use Rattle.replies.specs.Bytes.{leastOutput}
 use Rattle.endpoint.specs.declared.Record.{Record}
 use Rattle.promise.specs.Rulebook.{Given, rule, open?, admit, shut, Fine}
 use Rattle.promise.specs.Calls.{HostCall, callOf, recordWith, areaWith, outcomeOf}

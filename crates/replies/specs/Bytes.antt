@@ -11,6 +11,10 @@ use Rattle.subscription.specs.declared.Subscription.{Subscription}
 use Rattle.objects.specs.Methods.{methodNumber}
 use Rattle.objects.specs.declared.Answer.{Answer}
 
+-- "4 NoRoom: output under 4,096 (delivery, take)"
+abbrev pub leastOutput : ℕ
+leastOutput = 4096
+
 -- document 01 'The wire', response: "size 4, handle 4, status 1, parameter count 1, parameters"
 unfoldable pub responseBytes : ℕ → Answer → List ℕ
 responseBytes handle a =

@@ -1,173 +1,31 @@
-use denote.Ref.{now}
-use native.Mathlib.Omega.{arith}
-use Prim.Native.Nat.{ℕ}
-use mathlib.Core.Path.{_≡_, ap, _∙_}
-use mathlib.Core.List.{List, _++_}
-use lib.ListN.{getD, take}
-use Rattle.frame.specs.Decide.{decide, taken, settled}
-use Rattle.frame.specs.declared.Decision.the-variants.{Undecided, Faulty, Sound}
-use Rattle.area.specs.Area.{undecidedOf, partCleared}
-use Rattle.area.specs.Scaffold.{gathered}
-use Rattle.area.proofs.Gathers.{waits-few, waits-gathered, cleared-gathered, decided-behind, message-lies, message-whole}
-use Rattle.endpoint.proofs.Delivers.{taken-waits, taken-closed, taken-runs}
+use Rattle.endpoint.proofs.Delivers.{brought-in}
 use borrow.Author.Needs.{needs}
 use Rattle.endpoint.proofs.Record.take_in.Statement.{statement}
 use Rattle.endpoint.proofs.Record.take_in.Tie as tie
 
-mul-k : tie.Need-mul-k
-mul-k c = search needs
+mul-take-in : tie.Need-mul-take-in
+mul-take-in c = search needs
 
-array-read-k : tie.Need-array-read-k
-array-read-k c = search needs
+array-read-take-in : tie.Need-array-read-take-in
+array-read-take-in c = search needs
 
-cast-k : tie.Need-cast-k
-cast-k c = search needs
+take-in-requires : tie.Need-take-in-requires
+take-in-requires c κs = search needs
 
-gather-requires : tie.Need-gather-requires
-gather-requires c κs = search needs
+mul-self : tie.Need-mul-self
+mul-self c = search needs
 
-enum-told : tie.Need-enum-told
-enum-told c = search needs
-
-add-with-held : tie.Need-add-with-held
-add-with-held c = search needs
-
-cast-with-held : tie.Need-cast-with-held
-cast-with-held c =
-    let s = c .before .before .before .before .before .before .before .before .before .before in
-    let a = s .args in
-    let area = now (a .area) in
-    let n = a .n in
-    let k = getD (a .self .held) n 0 in
-    let piece = now (a .piece) in
-    let w = s .pre .0 in
-    record { fits = omega (arith, waits-few area n k w piece (cc)) }
-
-with-held-requires : tie.Need-with-held-requires
-with-held-requires c κs = search needs
-
-enum-known-f : tie.Need-enum-known-f
-enum-known-f c = search needs
-
-clear-part-requires : tie.Need-clear-part-requires
-clear-part-requires c κs = search needs
-
-closed-requires : tie.Need-closed-requires
-closed-requires c κs = search needs
-
-sub-t31 : tie.Need-sub-t31
-unfolding settled taken
-sub-t31 c =
-    let s = c .before .before .before .before .before .before .before .before .before .before .before .before .before .before .before .before in
-    let a = s .args in
-    let area = now (a .area) in
-    let n = a .n in
-    let k = getD (a .self .held) n 0 in
-    let piece = now (a .piece) in
-    let w = s .pre .0 in
-    let f = c .before .before .before .before .before .before .f .given .0 in
-    let e : decide (undecidedOf area n k ++ piece) ≡ Faulty (f .0) (f .1 .0) = cc (c .before .before .before .before .before .before .f .given .1, c .before .before .before .before .before .before .before .before .before .before .gather .ensures .0) in
-    omega (arith, rw e at (decided-behind area n k w piece (rw e)))
-
-enum-known-t : tie.Need-enum-known-t
-enum-known-t c = search needs
-
-fitting-requires : tie.Need-fitting-requires
-fitting-requires c κs = search needs
-
-add-used : tie.Need-add-used
-add-used c = search needs
-
-run-requires : tie.Need-run-requires
-run-requires c κs =
-    let s = c .before .before .before .before .before .before .before .before .before .before .before .before .before .before in
-    let a = s .args in
-    let area = now (a .area) in
-    let n = a .n in
-    let k = getD (a .self .held) n 0 in
-    let piece = now (a .piece) in
-    let w = s .pre .0 in
-    let t = c .before .before .before .before .t .given .0 .0 in
-    (rw (c .before .before .before .before .before .before .before .before .gather .ensures .1, c .before .before .fitting .ensures) (message-whole area n k w piece t (cc)), omega arith)
+element-write-self : tie.Need-element-write-self
+element-write-self c = search needs
 
 same-length : tie.Need-same-length
 same-length c = search needs
 
-returns : tie.Need-returns
-returns c =
-    let s = c .before .before .before .before .before .before .before .before .before .before .before in
-    let a = s .args in
-    let area = now (a .area) in
-    let n = a .n in
-    let k = getD (a .self .held) n 0 in
-    let piece = now (a .piece) in
-    let w = s .pre .0 in
-    let e : decide (undecidedOf area n k ++ piece) ≡ Undecided = cc in
-    taken-waits (a .self) area n k piece (now (a .output)) (c .with-held .result) (c .before .before .before .before .before .gather .last .0) e (c .with-held .ensures) (c .before .before .before .before .before .gather .ensures .1 ∙ waits-gathered area n k w piece e)
-
 same-length-2 : tie.Need-same-length-2
 same-length-2 c = search needs
 
-returns-2 : tie.Need-returns-2
-returns-2 c =
-    let s = c .before .before .before .before .before .before .before .before .before .before .before .before .before .before .before .before in
-    let a = s .args in
-    let area = now (a .area) in
-    let n = a .n in
-    let k = getD (a .self .held) n 0 in
-    let piece = now (a .piece) in
-    let w = s .pre .0 in
-    let f = c .before .before .before .before .before .before .f .given .0 in
-    let e : decide (undecidedOf area n k ++ piece) ≡ Faulty (f .0) (f .1 .0) = cc (c .before .before .before .before .before .before .f .given .1, c .before .before .before .before .before .before .before .before .before .before .gather .ensures .0) in
-    taken-closed (a .self) area n k piece (now (a .output)) (f .0) (f .1 .0) (c .closed .result) (c .before .before .before .clear-part .last .0) e (c .closed .ensures) (c .before .before .before .clear-part .ensures ∙ ap (λ (l : List ℕ). partCleared l n) (c .before .before .before .before .before .before .before .before .before .before .gather .ensures .1) ∙ cleared-gathered area n k w piece)
-
-same-length-3 : tie.Need-same-length-3
-same-length-3 c = search needs
-
-same-length-4 : tie.Need-same-length-4
-same-length-4 c = search needs
-
-returns-3 : tie.Need-returns-3
-unfolding taken
-returns-3 c =
-    let s = c .before .before .before .before .before .before .before .before .before .before .before .before .before .before .before .before .before .before .before in
-    let a = s .args in
-    let area = now (a .area) in
-    let n = a .n in
-    let k = getD (a .self .held) n 0 in
-    let piece = now (a .piece) in
-    let w = s .pre .0 in
-    let t = c .before .before .before .before .before .before .before .before .before .t .given .0 .0 in
-    let g = c .before .before .before .before .before .before .before .before .before .before .before .before .before .gather .last .0 in
-    let e : decide (undecidedOf area n k ++ piece) ≡ Sound t = cc (c .before .before .before .before .before .before .before .before .before .t .given .1, c .before .before .before .before .before .before .before .before .before .before .before .before .before .gather .ensures .0) in
-    let ge : g ≡ gathered area n k piece = c .before .before .before .before .before .before .before .before .before .before .before .before .before .gather .ensures .1 in
-    let m : undecidedOf g n t ≡ take t (undecidedOf area n k ++ piece) = ap (λ (l : List ℕ). undecidedOf l n t) ge ∙ (rw e at (message-lies area n k w piece)) in
-    taken-runs (a .self) area n k piece (now (a .output)) t g _ e m (rw ge (cleared-gathered area n k w piece)) (c .before .before .before .before .run .ensures)
+returns : tie.Need-returns
+returns c = search (brought-in, needs)
 
 pub take-in-spec : {M : Type 1} → statement M
-take-in-spec =
-    tie.close
-    (tie.spec
-    mul-k
-    array-read-k
-    cast-k
-    gather-requires
-    enum-told
-    add-with-held
-    cast-with-held
-    with-held-requires
-    enum-known-f
-    clear-part-requires
-    closed-requires
-    sub-t31
-    enum-known-t
-    fitting-requires
-    add-used
-    run-requires
-    same-length
-    returns
-    same-length-2
-    returns-2
-    same-length-3
-    same-length-4
-    returns-3)
+take-in-spec = tie.close (tie.spec mul-take-in array-read-take-in take-in-requires mul-self element-write-self same-length same-length-2 returns)

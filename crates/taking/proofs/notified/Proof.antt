@@ -1,8 +1,8 @@
 use Rattle.laws.proofs.Tables.{length-mapped}
-use Rattle.endpoint.proofs.Takes.{emitter-mute, notified-is}
+use Rattle.taking.proofs.Takes.{emitter-mute, notified-is}
 use borrow.Author.Needs.{needs}
-use Rattle.endpoint.proofs.Record.notified.Statement.{statement}
-use Rattle.endpoint.proofs.Record.notified.Tie as tie
+use Rattle.taking.proofs.notified.Statement.{statement}
+use Rattle.taking.proofs.notified.Tie as tie
 
 mul-s : tie.Need-mul-s
 mul-s c = search needs

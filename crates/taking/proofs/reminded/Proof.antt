@@ -1,8 +1,8 @@
 use Rattle.laws.proofs.Tables.{length-mapped}
-use Rattle.endpoint.proofs.Takes.{connection-obeys, reminded-is}
+use Rattle.taking.proofs.Takes.{connection-obeys, reminded-is}
 use borrow.Author.Needs.{needs}
-use Rattle.endpoint.proofs.Record.reminded.Statement.{statement}
-use Rattle.endpoint.proofs.Record.reminded.Tie as tie
+use Rattle.taking.proofs.reminded.Statement.{statement}
+use Rattle.taking.proofs.reminded.Tie as tie
 
 mul-c : tie.Need-mul-c
 mul-c c = search needs

@@ -6,10 +6,10 @@ use lib.ListN.{length, take, drop, length-drop}
 use lib.Seq.{length-take-le}
 use Rattle.area.specs.Area.{partAt, undecidedOf}
 use Rattle.serve.specs.Sound.{soundOf}
-use Rattle.endpoint.proofs.Delivers.{messaged-is}
+use Rattle.delivery.proofs.Delivers.{messaged-is}
 use borrow.Author.Needs.{needs}
-use Rattle.endpoint.proofs.Record.run.Statement.{statement}
-use Rattle.endpoint.proofs.Record.run.Tie as tie
+use Rattle.delivery.proofs.run.Statement.{statement}
+use Rattle.delivery.proofs.run.Tie as tie
 
 mul-base : tie.Need-mul-base
 mul-base c = search needs
@@ -29,7 +29,7 @@ part-sound-end c = search needs
 sound-requires : tie.Need-sound-requires
 unfolding undecidedOf
 sound-requires c κs =
-    let s = c .before .before .before .before .before .before in
+    let s = c .before .before .before .before .before in
     let a = s .args in
     let w = s .pre .0 in
     let z : partAt (a .n) + a .t - partAt (a .n) ≡ a .t = omega arith in
@@ -39,14 +39,8 @@ sound-requires c κs =
 clear-used-requires : tie.Need-clear-used-requires
 clear-used-requires c κs = search needs
 
-mul-held : tie.Need-mul-held
-mul-held c = search needs
-
-array-write-held : tie.Need-array-write-held
-array-write-held c = search needs
-
-sub-t16 : tie.Need-sub-t16
-sub-t16 c = search needs
+sub-t14 : tie.Need-sub-t14
+sub-t14 c = search needs
 
 same-length : tie.Need-same-length
 same-length c = search needs
@@ -57,11 +51,11 @@ same-length-2 c = search needs
 returns : tie.Need-returns
 unfolding undecidedOf
 returns c =
-    let s = c .before .before .before .before .before .before .before .before .before .before .before .before .before .before .before in
+    let s = c .before .before .before .before .before .before .before .before .before .before .before .before .before in
     let a = s .args in
     let z : partAt (a .n) + a .t - partAt (a .n) ≡ a .t = omega arith in
-    let q = rw z at (c .before .before .before .before .before .before .before .before .sound .ensures) in
-    messaged-is (soundOf (a .self .device) (a .n) (take (a .t) (drop (partAt (a .n)) (now (a .area))))) (a .self) (now (a .area)) (a .n) (a .t - a .k) (now (a .output)) (c .before .before .before .before .before .before .before .before .sound .result .length) (c .before .before .before .before .before .before .before .before .sound .result .device) (c .before .before .before .before .clear-used .last .0) (c .before .before .before .before .before .before .before .before .sound .last .1 .1 .1 .0) (q .1) (q .0) (c .before .before .before .before .clear-used .ensures) (q .2)
+    let q = rw z at (c .before .before .before .before .before .before .before .sound .ensures) in
+    messaged-is (soundOf (a .device) (a .n) (take (a .t) (drop (partAt (a .n)) (now (a .area))))) (now (a .area)) (a .n) (a .t - a .k) (now (a .output)) (c .before .before .before .before .before .before .before .sound .result .length) (c .before .before .before .before .before .before .before .sound .result .device) (c .before .before .before .clear-used .last .0) (c .before .before .before .before .before .before .before .sound .last .1 .1 .1 .0) (q .1) (q .0) (c .before .before .before .clear-used .ensures) (q .2)
 
 pub run-spec : {M : Type 1} → statement M
 run-spec =
@@ -74,9 +68,7 @@ run-spec =
     part-sound-end
     sound-requires
     clear-used-requires
-    mul-held
-    array-write-held
-    sub-t16
+    sub-t14
     same-length
     same-length-2
     returns)

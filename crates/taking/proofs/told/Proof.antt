@@ -1,7 +1,7 @@
-use Rattle.endpoint.specs.Take.{notifiedOf}
+use Rattle.taking.specs.Dispatch.{notifiedOf}
 use borrow.Author.Needs.{needs}
-use Rattle.endpoint.proofs.take.told.Statement.{statement}
-use Rattle.endpoint.proofs.take.told.Tie as tie
+use Rattle.taking.proofs.told.Statement.{statement}
+use Rattle.taking.proofs.told.Tie as tie
 
 mul-s : tie.Need-mul-s
 mul-s c = search needs
