@@ -220,7 +220,7 @@ fn input_buffer() -> [u8; PIECE]
     [0; PIECE]
 }
 
-// Lists what is read from fd on standard output, and answers whether all was read and written.
+// Lists what is read from fd on standard output. The answer is false where a read or a write failed, or the offset came to its limit.
 // Each turn but the last reads a byte or more, so offset and bytes held grow to their limit.
 pub fn list(fd: i32) -> bool {
     let mut space = input_buffer();
