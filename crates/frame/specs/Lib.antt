@@ -1,4 +1,5 @@
 pub mod Limits
+pub mod Places
 pub mod Header
 pub mod Entry
 pub mod Decide

@@ -23,7 +23,8 @@ const MUTE_PROPERTY: u32 = 262145;
 // One response from place at on: the place behind it.
 pub fn put_response(out: &mut [u8], at: usize, handle: u32, answer: Answer) -> usize
     requires { ⌜ (answer .length ≤ 12) × (at + 22 ≤ length (now out)) ⌝ }
-    ensures { λ r. ⌜ (r ≡ at + (leastResponse + answer .length)) × (now (out .exit) ≡ sets (now (out .entry)) at (responseBytes handle answer)) ⌝ }
+    ensures { λ r. ⌜ (r ≡ at + (leastResponse + answer .length))
+        × (now (out .exit) ≡ sets (now (out .entry)) at (responseBytes handle answer)) ⌝ }
 {
     let n = answer.length as usize;
     let bytes = answer.bytes;
@@ -60,7 +61,8 @@ fn put_change(out: &mut [u8], s: Subscription, value: u8)
 // The notification of a mute's value to a subscriber, at the output's front: its length.
 pub fn put_notification(out: &mut [u8], s: Subscription, value: u8) -> usize
     requires { ⌜ 41 ≤ length (now out) ⌝ }
-    ensures { λ r. ⌜ (r ≡ length (notificationBytes s value)) × (now (out .exit) ≡ atFront (notificationBytes s value) (now (out .entry))) ⌝ }
+    ensures { λ r. ⌜ (r ≡ length (notificationBytes s value))
+        × (now (out .exit) ≡ atFront (notificationBytes s value) (now (out .entry))) ⌝ }
 {
     layout::put_head(out, frame::NOTIFICATION, 1, NOTIFICATION_SIZE);
     put_subscriber(out, s);
