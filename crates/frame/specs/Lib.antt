@@ -4,4 +4,4 @@ pub mod Header
 pub mod Entry
 pub mod Decide
 pub mod Deciding
-pub mod Sound
+pub mod Scaffold

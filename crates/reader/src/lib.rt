@@ -11,7 +11,7 @@ ghost use Prim.Native.Nat.{_≤_};
 ghost use lib.ListN.{length};
 ghost use Rattle.frame.specs.Entry.{leastEntry};
 ghost use Rattle.frame.specs.Header.{pduType};
-ghost use Rattle.frame.specs.Sound.{SoundAt};
+ghost use Rattle.frame.specs.Scaffold.{SoundAt};
 ghost use Rattle.fields.specs.Place.{entriesFrom};
 ghost use Rattle.reader.specs.Numbers.{messageNumbers, readingNumbers, entryNumbers};
 ghost use Rattle.reader.specs.Read.{dataOf, messageOf, readOf};

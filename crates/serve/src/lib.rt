@@ -9,7 +9,7 @@ ghost use lib.Seq.{sets};
 ghost use lib.Dec.{eqb};
 ghost use Rattle.frame.specs.Limits.{leastResponse};
 ghost use Rattle.frame.specs.Entry.{entriesFill};
-ghost use Rattle.frame.specs.Sound.{SoundAt};
+ghost use Rattle.frame.specs.Scaffold.{SoundAt};
 ghost use Rattle.layout.specs.Message.{atFront};
 ghost use Rattle.replies.specs.Bytes.{responseBytes};
 ghost use Rattle.serve.specs.Serve.{lastOf, responsesOf};
