@@ -33,6 +33,10 @@ const EVENT: usize = frame::HEADER_END + places::EVENT;
 
 const PROPERTY: usize = frame::HEADER_END + frame::LEAST_NOTIFICATION;
 
+const VALUE: usize = PROPERTY + 4;
+
+const CHANGE_TYPE: usize = VALUE + 1;
+
 // Property 4.1.
 const MUTE_PROPERTY: u32 = 262145;
 
@@ -70,8 +74,8 @@ fn put_change(out: &mut [u8], s: Subscription, value: u8)
     octets::put32(out, EMITTER, s.emitter);
     octets::put32(out, EVENT, s.event);
     octets::put32(out, PROPERTY, MUTE_PROPERTY);
-    octets::put8(out, PROPERTY + 4, value);
-    octets::put8(out, PROPERTY + 5, 1);
+    octets::put8(out, VALUE, value);
+    octets::put8(out, CHANGE_TYPE, 1);
 }
 
 // The notification of a mute's value to a subscriber, at the output's front: its length.
