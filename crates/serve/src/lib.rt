@@ -106,7 +106,14 @@ pub fn sound(device: Device, n: u8, m: &[u8], out: &mut [u8]) -> Ruling
     }
     let d = device.heard(n);
     if kind < frame::NOTIFICATION {
-        return commands(d, n, kind, octets::be16(m, frame::places::MESSAGE_COUNT), &m[frame::HEADER_END..], out);
+        return commands(
+            d,
+            n,
+            kind,
+            octets::be16(m, frame::places::MESSAGE_COUNT),
+            &m[frame::HEADER_END..],
+            out,
+        );
     }
     Ruling {
         device: d,
