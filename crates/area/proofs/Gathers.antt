@@ -13,7 +13,7 @@ use Rattle.octets.specs.Zeros.{zeros}
 use Rattle.octets.proofs.Scans.{length-zeros}
 use Rattle.frame.specs.Limits.{greatestSize}
 use Rattle.frame.specs.Decide.{decide, taken, settled}
-use Rattle.frame.specs.Sound.{SoundAt}
+use Rattle.frame.specs.Scaffold.{SoundAt}
 use Rattle.frame.specs.declared.Decision.{Decision}
 use Rattle.frame.specs.declared.Decision.the-variants.{Undecided, Faulty, Sound}
 use Rattle.frame.proofs.Ways.{deciding, unsettled}

@@ -7,12 +7,12 @@ use lib.ListN.{length, take, drop}
 use lib.Seq.{sets}
 use lib.Dec.{eqb, leb}
 use Rattle.octets.specs.Zeros.{zeros, allZero}
-use Rattle.frame.specs.Limits.{greatestSize}
+use Rattle.frame.specs.Limits.{greatestSize, longestMessage}
 use Rattle.frame.specs.Decide.{decide, settled}
 
 -- "8 connections of 2,049 bytes"
 abbrev pub partBytes : ℕ
-partBytes = 2049
+partBytes = longestMessage
 
 -- "a lent area of 16,392 bytes"
 abbrev pub areaBytes : ℕ

@@ -8,7 +8,7 @@ use lib.Seq.{sets}
 use Rattle.octets.specs.Zeros.{zeros}
 use Rattle.frame.specs.Limits.{greatestSize}
 use Rattle.frame.specs.Decide.{decide, settled}
-use Rattle.frame.specs.Sound.{SoundAt}
+use Rattle.frame.specs.Scaffold.{SoundAt}
 use Rattle.area.specs.Area.{partBytes, areaBytes, partAt, undecidedOf}
 
 -- connection n's bytes behind its first u are zeros already

@@ -11,7 +11,7 @@ ghost use Rattle.area.specs.Scaffold.{ZerosBehind, Lying, gathered};
 
 pub const CONNECTIONS: usize = 8;
 
-pub const PART: usize = 2049;
+pub const PART: usize = frame::LONGEST_MESSAGE;
 
 pub const AREA: usize = 16392;
 

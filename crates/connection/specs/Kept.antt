@@ -3,18 +3,18 @@ use Prim.Native.Nat.{ℕ, _+_, _^_, _<_}
 use mathlib.Core.Path.{_≡_}
 use mathlib.Core.Bool.{Bool, true, false, not, _&&_}
 use lib.Dec.{eqb, leb}
-use Rattle.heartbeat.specs.Beat.{beatOf}
+use Rattle.heartbeat.specs.Beat.{greatestSeconds, greatestMilliseconds, beatOf}
 use Rattle.heartbeat.specs.declared.Heartbeat.{Heartbeat}
 use Rattle.heartbeat.specs.declared.Heartbeat.the-variants.{InSeconds, InMilliseconds}
 use Rattle.connection.specs.State.{closed, opened}
-use Rattle.connection.specs.Obeys.{topMilliseconds, connectionObeys}
+use Rattle.connection.specs.Obeys.{connectionObeys}
 use Rattle.connection.specs.Supervision.{fitsStep, closesAt, connectionTicked, heardOf, sentOf, beatingOf, heartbeatKept}
 use Rattle.connection.specs.declared.Connection.{Connection}
 
 -- the value fits its kind: "2 bytes of seconds, or 4 bytes of milliseconds"
 unfoldable pub fitsForm : Heartbeat → Bool
-fitsForm (InSeconds s) = leb (s .0) 65535
-fitsForm (InMilliseconds m) = leb (m .0) topMilliseconds
+fitsForm (InSeconds s) = leb (s .0) greatestSeconds
+fitsForm (InMilliseconds m) = leb (m .0) greatestMilliseconds
 
 pub record SupervisionKept : Type 0 where
   -- the record rules
@@ -29,6 +29,7 @@ pub record SupervisionKept : Type 0 where
   -- a tick closes exactly what it says
   pub leaving : (step : ℕ) (c : Connection) → connectionTicked step c .live ≡ (c .live && not (closesAt step c))
   -- a tick that leaves a supervised connection open adds the step to its silence and keeps its H
-  pub counting : (step : ℕ) (c : Connection) → eqb (c .beat) 0 ≡ false → closesAt step c ≡ false → (connectionTicked step c .silence ≡ c .silence + step) × (connectionTicked step c .beat ≡ c .beat)
+  pub counting : (step : ℕ) (c : Connection) → eqb (c .beat) 0 ≡ false → closesAt step c ≡ false
+      → (connectionTicked step c .silence ≡ c .silence + step) × (connectionTicked step c .beat ≡ c .beat)
   -- "in the same form with the same value": what a due keep-alive carries is what was set
   pub telling : (h : Heartbeat) (c : Connection) → eqb (beatOf h) 0 ≡ false → heartbeatKept (beatingOf h c) ≡ h

@@ -9,13 +9,14 @@ ghost use Rattle.laws.specs.Lists.{all, mask};
 ghost use Rattle.connection.specs.State.{liveAt, lowestFree, lowestDue};
 ghost use Rattle.connection.specs.Obeys.{isClosed, isIdle, formObeys, isTimed, connectionObeys};
 ghost use Rattle.connection.specs.Kept.{SupervisionKept};
-ghost use Rattle.connection.specs.Supervision.{topCount, fitsStep, closesAt, quietAfter, connectionTicked, heardOf, sentOf, setBeat, beatingOf, heartbeatKept};
+ghost use Rattle.connection.specs.Supervision.{topCount, fitsStep, closesAt, quietAfter, connectionTicked};
+ghost use Rattle.connection.specs.Supervision.{heardOf, sentOf, setBeat, beatingOf, heartbeatKept};
 
 pub const CONNECTIONS: usize = 8;
 
-pub const TOP_SECONDS: u64 = 65535000;
+pub const TOP_SECONDS: u64 = heartbeat::GREATEST_SECONDS as u64 * 1000;
 
-pub const TOP_MILLISECONDS: u64 = 4294967295;
+pub const TOP_MILLISECONDS: u64 = heartbeat::GREATEST_MILLISECONDS as u64;
 
 const TOP_COUNT: u64 = 18446744073709551615;
 

@@ -6,6 +6,9 @@ use lib.ListN.{length, getD}
 use lib.Dec.{eqb}
 use Rattle.octets.specs.Numbers.{be16At, be32At}
 use Rattle.frame.specs.Limits.{secondsBytes}
+use Rattle.frame.specs.Places.{handlePlace, commandTargetPlace, commandMethodPlace, commandCountPlace}
+use Rattle.frame.specs.Places.{notificationTargetPlace, notificationMethodPlace, notificationCountPlace}
+use Rattle.frame.specs.Places.{contextPlace, emitterPlace, eventPlace, statusPlace, responseCountPlace}
 use Rattle.heartbeat.specs.declared.Heartbeat.{Heartbeat}
 use Rattle.heartbeat.specs.declared.Heartbeat.the-variants.{InSeconds, InMilliseconds}
 use Rattle.fields.specs.declared.Method.{Method}
@@ -19,23 +22,29 @@ methodAt e at = record { level = be16At e at; index = be16At e (at + 2) }
 
 -- "size 4, handle 4, target 4, method 4, parameter count 1"
 unfoldable pub commandOf : List ℕ → CommandFields
-commandOf e = record { handle = be32At e 4; target = be32At e 8; method = methodAt e 12; count = getD e 16 0 }
+commandOf e =
+    record {
+      handle = be32At e handlePlace;
+      target = be32At e commandTargetPlace;
+      method = methodAt e commandMethodPlace;
+      count = getD e commandCountPlace 0;
+    }
 
 -- "size 4, target 4, method 4, parameter count 1, context 4, emitter 4, event 4"
 unfoldable pub notificationOf : List ℕ → NotificationFields
 notificationOf e =
     record {
-      target = be32At e 4;
-      method = methodAt e 8;
-      count = getD e 12 0;
-      context = be32At e 13;
-      emitter = be32At e 17;
-      event = methodAt e 21;
+      target = be32At e notificationTargetPlace;
+      method = methodAt e notificationMethodPlace;
+      count = getD e notificationCountPlace 0;
+      context = be32At e contextPlace;
+      emitter = be32At e emitterPlace;
+      event = methodAt e eventPlace;
     }
 
 -- "size 4, handle 4, status 1, parameter count 1"
 unfoldable pub responseOf : List ℕ → ResponseFields
-responseOf e = record { handle = be32At e 4; status = getD e 8 0; count = getD e 9 0 }
+responseOf e = record { handle = be32At e handlePlace; status = getD e statusPlace 0; count = getD e responseCountPlace 0 }
 
 -- a keep-alive's data: "the length of the data tells which"
 unfoldable pub heartbeatOf : List ℕ → Heartbeat

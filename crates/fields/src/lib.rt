@@ -1,4 +1,5 @@
 // Where an entry stands, its fields and its parameters, and the heartbeat that a keep-alive carries.
+use frame::places;
 use heartbeat::Heartbeat;
 use heartbeat::Milliseconds;
 use heartbeat::Seconds;
@@ -85,10 +86,10 @@ pub fn command_of(e: &[u8]) -> CommandFields
     ensures { λ r. ⌜ r ≡ commandOf (now (e .entry)) ⌝ }
 {
     CommandFields {
-        handle: octets::be32(e, 4),
-        target: octets::be32(e, 8),
-        method: method_at(e, 12),
-        count: e[16],
+        handle: octets::be32(e, places::HANDLE),
+        target: octets::be32(e, places::COMMAND_TARGET),
+        method: method_at(e, places::COMMAND_METHOD),
+        count: e[places::COMMAND_COUNT],
     }
 }
 
@@ -97,12 +98,12 @@ pub fn notification_of(e: &[u8]) -> NotificationFields
     ensures { λ r. ⌜ r ≡ notificationOf (now (e .entry)) ⌝ }
 {
     NotificationFields {
-        target: octets::be32(e, 4),
-        method: method_at(e, 8),
-        count: e[12],
-        context: octets::be32(e, 13),
-        emitter: octets::be32(e, 17),
-        event: method_at(e, 21),
+        target: octets::be32(e, places::NOTIFICATION_TARGET),
+        method: method_at(e, places::NOTIFICATION_METHOD),
+        count: e[places::NOTIFICATION_COUNT],
+        context: octets::be32(e, places::CONTEXT),
+        emitter: octets::be32(e, places::EMITTER),
+        event: method_at(e, places::EVENT),
     }
 }
 
@@ -111,9 +112,9 @@ pub fn response_of(e: &[u8]) -> ResponseFields
     ensures { λ r. ⌜ r ≡ responseOf (now (e .entry)) ⌝ }
 {
     ResponseFields {
-        handle: octets::be32(e, 4),
-        status: e[8],
-        count: e[9],
+        handle: octets::be32(e, places::HANDLE),
+        status: e[places::STATUS],
+        count: e[places::RESPONSE_COUNT],
     }
 }
 

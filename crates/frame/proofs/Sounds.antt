@@ -12,7 +12,7 @@ use Rattle.numbers.specs.Fault.{faultData}
 use Rattle.frame.specs.Limits.{headerEnd}
 use Rattle.frame.specs.Header.{pduSize, pduType, messageCount, messageLength, headerFault}
 use Rattle.frame.specs.Decide.{dataSound, decideData, decide, settled}
-use Rattle.frame.specs.Sound.{SoundAt}
+use Rattle.frame.specs.Scaffold.{SoundAt}
 use Rattle.frame.specs.declared.Decision.{Decision}
 use Rattle.frame.specs.declared.Decision.the-variants.{Undecided, Faulty, Sound}
 use Rattle.frame.proofs.Headers.{sound-header}

@@ -6,6 +6,7 @@ use lib.ListN.{length, getD, drop}
 use lib.Dec.{ltb, eqb}
 use Rattle.octets.specs.Numbers.{be32At}
 use Rattle.frame.specs.Limits.{notification, response, leastCommand, leastNotification, leastResponse}
+use Rattle.frame.specs.Places.{commandCountPlace, notificationCountPlace, responseCountPlace}
 
 -- the least entry, which is also where its parameters start
 unfoldable pub leastEntry : ℕ → ℕ
@@ -13,7 +14,8 @@ leastEntry kind = cond (ltb kind notification) leastCommand (cond (eqb kind noti
 
 -- where the parameter count stands in an entry
 unfoldable pub countPlace : ℕ → ℕ
-countPlace kind = cond (ltb kind notification) 16 (cond (eqb kind notification) 12 9)
+countPlace kind =
+    cond (ltb kind notification) commandCountPlace (cond (eqb kind notification) notificationCountPlace responseCountPlace)
 
 -- "a notification's count is at least 1, and 1 means no event parameters"; for the others 0 means none
 unfoldable pub leastCount : ℕ → ℕ

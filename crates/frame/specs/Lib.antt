@@ -1,6 +1,7 @@
 pub mod Limits
+pub mod Places
 pub mod Header
 pub mod Entry
 pub mod Decide
 pub mod Deciding
-pub mod Sound
+pub mod Scaffold

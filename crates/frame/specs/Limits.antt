@@ -1,5 +1,5 @@
 -- The numbers of document 01 'The wire', each once, by name.
-use Prim.Native.Nat.{ℕ}
+use Prim.Native.Nat.{ℕ, _+_}
 
 -- "A message is the byte 3B, a 9-byte header, then data"
 abbrev pub sync : ℕ
@@ -19,6 +19,10 @@ leastSize = 9
 
 abbrev pub greatestSize : ℕ
 greatestSize = 2048
+
+-- with its 3B
+abbrev pub longestMessage : ℕ
+longestMessage = greatestSize + 1
 
 -- the types, 0 to 4
 abbrev pub commandWantingReply : ℕ

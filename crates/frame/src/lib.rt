@@ -7,6 +7,8 @@ ghost use Rattle.frame.specs.Entry.{leastEntry, countPlace, leastCount, 
 ghost use Rattle.frame.specs.Decide.{keepAliveFill, dataSound, decideData, decideHeader, decide};
 ghost use Rattle.frame.specs.Deciding.{Deciding};
 
+pub mod places;
+
 pub const SYNC: u8 = 59;
 
 pub const HEADER_END: usize = 10;
@@ -16,6 +18,9 @@ pub const VERSION: u16 = 1;
 pub const LEAST_SIZE: u32 = 9;
 
 pub const GREATEST_SIZE: u32 = 2048;
+
+// With its 3B.
+pub const LONGEST_MESSAGE: usize = GREATEST_SIZE as usize + 1;
 
 pub const COMMAND: u8 = 0;
 
@@ -83,10 +88,10 @@ fn header_fault(s: &[u8]) -> u8
     ensures { λ r. ⌜ r ≡ headerFault (now (s .entry)) ⌝ }
 {
     fields_fault(
-        octets::be16(s, 1),
-        octets::be32(s, 3),
-        s[7],
-        octets::be16(s, 8),
+        octets::be16(s, places::VERSION),
+        octets::be32(s, places::SIZE),
+        s[places::TYPE],
+        octets::be16(s, places::MESSAGE_COUNT),
     )
 }
 
@@ -107,12 +112,12 @@ fn count_place(kind: u8) -> usize
     ensures { λ r. ⌜ r ≡ countPlace kind ⌝ }
 {
     if kind < NOTIFICATION {
-        return 16;
+        return places::COMMAND_COUNT;
     }
     if kind == NOTIFICATION {
-        return 12;
+        return places::NOTIFICATION_COUNT;
     }
-    9
+    places::RESPONSE_COUNT
 }
 
 fn least_count(kind: u8) -> u8
@@ -217,7 +222,11 @@ fn decide_data(m: &[u8]) -> Decision
     requires { ⌜ 10 ≤ length (now m) ⌝ }
     ensures { λ r. ⌜ r ≡ decideData (now (m .entry)) ⌝ }
 {
-    if data_sound(m[7], octets::be16(m, 8), &m[HEADER_END..]) {
+    if data_sound(
+        m[places::TYPE],
+        octets::be16(m, places::MESSAGE_COUNT),
+        &m[HEADER_END..],
+    ) {
         return Decision::Sound(m.len());
     }
     Decision::Faulty(numbers::FAULT_DATA, m.len())
@@ -232,7 +241,7 @@ fn decide_header(s: &[u8]) -> Decision
     if fault != 0 {
         return Decision::Faulty(fault, HEADER_END);
     }
-    let n = octets::be32(s, 3) as usize + 1;
+    let n = octets::be32(s, places::SIZE) as usize + 1;
     if s.len() < n {
         return Decision::Undecided;
     }

@@ -12,6 +12,13 @@ secondsForm = 1
 abbrev pub millisecondsForm : ℕ
 millisecondsForm = 2
 
+-- the most that 2 bytes of seconds hold, and 4 bytes of milliseconds
+abbrev pub greatestSeconds : ℕ
+greatestSeconds = 65535
+
+abbrev pub greatestMilliseconds : ℕ
+greatestMilliseconds = 4294967295
+
 unfoldable pub formOf : Heartbeat → ℕ
 formOf (InSeconds s) = secondsForm
 formOf (InMilliseconds m) = millisecondsForm

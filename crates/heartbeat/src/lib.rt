@@ -7,6 +7,11 @@ pub const SECONDS_FORM: u8 = 1;
 
 pub const MILLISECONDS_FORM: u8 = 2;
 
+// The most that 2 bytes of seconds hold, and 4 bytes of milliseconds.
+pub const GREATEST_SECONDS: u32 = 65535;
+
+pub const GREATEST_MILLISECONDS: u32 = 4294967295;
+
 pub struct Seconds(pub u16);
 
 pub struct Milliseconds(pub u32);

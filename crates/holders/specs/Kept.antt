@@ -13,4 +13,5 @@ pub record HoldersKept : Type 0 where
   -- whatever connections come, a sweep restores the rule
   pub sweeping : (ds : List Connection) (holder : ℕ) → holderObeys ds (sweptHolder ds holder) ≡ true
   -- where every connection that was open still is, the rule stands
-  pub standing : (cs ds : List Connection) → ((n : ℕ) → liveAt cs n ≡ true → liveAt ds n ≡ true) → (holder : ℕ) → holderObeys cs holder ≡ true → holderObeys ds holder ≡ true
+  pub standing : (cs ds : List Connection) → ((n : ℕ) → liveAt cs n ≡ true → liveAt ds n ≡ true)
+      → (holder : ℕ) → holderObeys cs holder ≡ true → holderObeys ds holder ≡ true

@@ -13,10 +13,10 @@ pub fn put_head(buf: &mut [u8], kind: u8, count: u16, size: u32)
     ensures { λ _. ⌜ now (buf .exit) ≡ sets (now (buf .entry)) 0 (headBytes kind count size) ⌝ }
 {
     buf[0] = frame::SYNC;
-    octets::put16(buf, 1, frame::VERSION);
-    octets::put32(buf, 3, size);
-    buf[7] = kind;
-    octets::put16(buf, 8, count);
+    octets::put16(buf, frame::places::VERSION, frame::VERSION);
+    octets::put32(buf, frame::places::SIZE, size);
+    buf[frame::places::TYPE] = kind;
+    octets::put16(buf, frame::places::MESSAGE_COUNT, count);
 }
 
 // The keep-alive that carries these seconds.

@@ -6,7 +6,7 @@ use native.Mathlib.Nat.{add-zero, add-assoc}
 use lib.ListN.{length, set, length-append}
 use lib.Seq.{length-sets}
 use Rattle.laws.proofs.Stores.{sets-append}
-use Rattle.lines.specs.Puts.{Puts}
+use Rattle.lines.specs.Scaffold.{Puts}
 
 pub puts-none : (out : List ℕ) (at : ℕ) → Puts [] out at out at
 puts-none out at = record { text = refl; next = sym (add-zero at) }

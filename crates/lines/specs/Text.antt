@@ -37,7 +37,3 @@ partLine at left = numberText at space ++ (partWord ++ numberText left newline)
 
 unfoldable pub endLine : ℕ → List ℕ
 endLine at = numberText at space ++ endWord
-
--- any line of a type of 8 bits, and a count, a size, a fault or a number of bytes of 16 bits, fits
-abbrev pub lineRoom : ℕ
-lineRoom = 40

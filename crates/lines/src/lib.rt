@@ -5,8 +5,8 @@ ghost use mathlib.Core.List.{_++_};
 ghost use Prim.Native.Nat.{_+_, _≤_};
 ghost use lib.Dec.{eqb};
 ghost use lib.ListN.{length};
-ghost use Rattle.lines.specs.Text.{lineRoom, space, newline, numberText, messageLine, stopLine, partLine, endLine};
-ghost use Rattle.lines.specs.Puts.{Puts, PutsLine};
+ghost use Rattle.lines.specs.Text.{space, newline, numberText, messageLine, stopLine, partLine, endLine};
+ghost use Rattle.lines.specs.Scaffold.{lineRoom, Puts, PutsLine};
 
 // Puts some bytes into the output at a place and answers the place behind them.
 fn put_bytes(out: &mut [u8], at: usize, s: &[u8]) -> usize

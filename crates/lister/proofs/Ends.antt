@@ -6,8 +6,7 @@ use mathlib.Core.Bool.{Bool, true, false}
 use native.Mathlib.Omega.{arith}
 use lib.ListN.{length, drop}
 use Rattle.frame.specs.Decide.{decide}
-use Rattle.lines.specs.Text.{lineRoom}
-use Rattle.lines.specs.Puts.{PutsLine}
+use Rattle.lines.specs.Scaffold.{lineRoom, PutsLine}
 use Rattle.lines.proofs.Putting.{puts-then, puts-length}
 use Rattle.lister.specs.Listing.{messagesOf, bytesOf, linesOf, lastLine, listedBytes, unlisted}
 use Rattle.lister.specs.Pieces.{overBy, over, pieceText}

@@ -14,7 +14,7 @@ use Rattle.frame.specs.Header.{pduSize, pduType, messageCount, countFault}
 use Rattle.frame.specs.Decide.{decide}
 use Rattle.frame.specs.declared.Decision.{Decision}
 use Rattle.frame.specs.declared.Decision.the-variants.{Undecided, Faulty, Sound}
-use Rattle.frame.specs.Sound.{SoundAt}
+use Rattle.frame.specs.Scaffold.{SoundAt}
 use Rattle.frame.proofs.Headers.{sound-header}
 use Rattle.frame.proofs.Sounds.{sound-at}
 use Rattle.fields.specs.Fields.{heartbeatOf}

@@ -15,7 +15,7 @@ use Rattle.reader.specs.Read.{readOf}
 use Rattle.reader.specs.declared.Message.{Message}
 use Rattle.reader.specs.declared.Reading.the-variants.{Read}
 use Rattle.lines.specs.Text.{messageLine}
-use Rattle.lines.specs.Puts.{Puts, PutsLine}
+use Rattle.lines.specs.Scaffold.{Puts, PutsLine}
 use Rattle.lines.proofs.Putting.{puts-none, puts-then}
 use Rattle.lister.specs.Listing.{soundFirst, messagesWithin, messagesOf, bytesOf, lineOf, linesOf}
 use Rattle.lister.specs.Scaffold.{firstOf, Lists}

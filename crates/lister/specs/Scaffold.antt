@@ -5,7 +5,7 @@ use mathlib.Core.List.{List, []}
 use lib.ListN.{length}
 use Rattle.frame.specs.Limits.{greatestSize}
 use Rattle.frame.specs.Decide.{decide}
-use Rattle.lines.specs.Puts.{Puts}
+use Rattle.lines.specs.Scaffold.{Puts}
 use Rattle.lister.specs.declared.Listed.{Listed}
 use Rattle.lister.specs.Listing.{soundFirst, bytesOf, linesOf}
 

@@ -12,7 +12,7 @@ use Rattle.octets.specs.Numbers.{Octets}
 use Rattle.frame.specs.Decide.{decide, taken}
 use Rattle.frame.specs.declared.Decision.{Decision}
 use Rattle.frame.specs.declared.Decision.the-variants.{Undecided, Faulty, Sound}
-use Rattle.frame.specs.Sound.{SoundAt}
+use Rattle.frame.specs.Scaffold.{SoundAt}
 use Rattle.frame.proofs.Sounds.{sound-at}
 use Rattle.mechanism.specs.Datagram.{resets}
 use Rattle.connection.specs.State.{closed, opened, liveAt, isNotOpen, lowestFree, lowestDue}

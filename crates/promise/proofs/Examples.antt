@@ -12,7 +12,7 @@ use Rattle.reader.specs.Numbers.{heartbeatNumbers, commandNumbers, notification
 use Rattle.reader.specs.Read.{messageOf, readBy, readOf}
 use Rattle.reader.specs.Entry.{hasEntry, fieldsOf, entryIn, entryBy, partIn, partBy, partOf}
 use Rattle.reader.specs.Entry as entries
-use Rattle.layout.specs.Message.{headBytes, message, atFront}
+use Rattle.layout.specs.Message.{headBytes, message, beatBytes, atFront}
 use Rattle.octets.specs.Same.{sameBytes}
 use Rattle.dotted.specs.Text.{isDot, isDigit, isLeading, digitValue, partIf, oneDigit, twoDigits, threeDigits, textPart, onto, textFields, fourParts, ofParts, partsOf, dottedOf}
 use Rattle.mechanism.specs.Arguments.{keyIn, textIn, portIn, isMisfit, isMulticast, isGroup, isTextTaken, addressOf, isUntaken, armedBy}
@@ -25,7 +25,7 @@ use Rattle.objects.specs.Methods.{placeOf, isManager, isObject, isTelling, isLo
 use Rattle.objects.specs.Tests.{isForbidden, countOf, lengthOf, isLengthBad, isPairBad, isMalformed, subscriptionFrom, isStrange, isEmitterBad, isMuteValue, isValueBad}
 use Rattle.objects.specs.Answers.{classOf, identificationOf, replyOf, failedOf, answerWith}
 use Rattle.holders.specs.Holders.{ownerOf, isOther, holderObeys, sweptHolder}
-use Rattle.replies.specs.Bytes.{responseBytes, subscriberBytes, changeBytes, notificationEntry, notificationBytes, heartbeatBytes, keepAliveBytes}
+use Rattle.replies.specs.Bytes.{responseBytes, subscriberBytes, changeBytes, notificationEntry, notificationBytes, keepAliveBytes}
 use Rattle.device.specs.State.{freshOf, openOf, sweepOf, closeOf, heardAt, sentAt, toldAt, beatingAt}
 use Rattle.device.specs.Time.{tickStep}
 use Rattle.device.specs.Run.{holderAt, muteAt, isHeldByOther, isSubscribed, isOutOfTurn, isFull, statusOf, mutedOf, doneOf, answerOf, ranBy, runOf}
@@ -39,5 +39,5 @@ use Rattle.promise.specs.Examples.{ExamplesWorked}
 use Rattle.promise.specs.ResetExamples.{ResetWorked}
 
 pub worked : ExamplesWorked × ResetWorked
-unfolding sameBytes isDot isDigit isLeading digitValue partIf oneDigit twoDigits threeDigits textPart onto textFields fourParts ofParts partsOf dottedOf keyIn textIn portIn isMisfit isMulticast isGroup isTextTaken addressOf isUntaken armedBy resets be16At be32At bytes16 bytes32 zeros formOf valueOf beatOf countFault fieldsFault headerFault leastEntry countPlace leastCount countFits entryFits entrySize entriesFill keepAliveFill dataSound decideData decideHeader decide entriesFrom entryBytes parametersOf methodAt commandOf notificationOf responseOf heartbeatOf heartbeatNumbers commandNumbers notificationNumbers responseNumbers messageOf readBy readOf hasEntry fieldsOf entryIn entryBy entries.entryOf partIn partBy partOf headBytes message atFront liveAt isNotOpen isDue fitsStep closesAt quietAfter connectionTicked heardOf sentOf setBeat beatingOf isMute isUnused isWaiting isTwin markedOf subscriptions.toldOf sweptOf placeOf isManager isObject isTelling isLocking isMuting isSubscribing hasMethod isForbidden countOf lengthOf isLengthBad isPairBad isMalformed subscriptionFrom isStrange isEmitterBad isMuteValue isValueBad classOf identificationOf replyOf failedOf answerWith ownerOf isOther holderObeys sweptHolder responseBytes subscriberBytes changeBytes notificationEntry notificationBytes heartbeatBytes keepAliveBytes freshOf openOf sweepOf closeOf heardAt sentAt toldAt beatingAt tickStep holderAt muteAt isHeldByOther isSubscribed isOutOfTurn isFull statusOf mutedOf doneOf answerOf ranBy runOf ranWith ranFirst lastOf responseTo responsesOf commandsOf keptAlive soundOf notifiedOf notifying reminding takenBy messageBy openBy closeBy rules.tickBy takeBy resetBy rule
+unfolding sameBytes isDot isDigit isLeading digitValue partIf oneDigit twoDigits threeDigits textPart onto textFields fourParts ofParts partsOf dottedOf keyIn textIn portIn isMisfit isMulticast isGroup isTextTaken addressOf isUntaken armedBy resets be16At be32At bytes16 bytes32 zeros formOf valueOf beatOf countFault fieldsFault headerFault leastEntry countPlace leastCount countFits entryFits entrySize entriesFill keepAliveFill dataSound decideData decideHeader decide entriesFrom entryBytes parametersOf methodAt commandOf notificationOf responseOf heartbeatOf heartbeatNumbers commandNumbers notificationNumbers responseNumbers messageOf readBy readOf hasEntry fieldsOf entryIn entryBy entries.entryOf partIn partBy partOf headBytes message atFront liveAt isNotOpen isDue fitsStep closesAt quietAfter connectionTicked heardOf sentOf setBeat beatingOf isMute isUnused isWaiting isTwin markedOf subscriptions.toldOf sweptOf placeOf isManager isObject isTelling isLocking isMuting isSubscribing hasMethod isForbidden countOf lengthOf isLengthBad isPairBad isMalformed subscriptionFrom isStrange isEmitterBad isMuteValue isValueBad classOf identificationOf replyOf failedOf answerWith ownerOf isOther holderObeys sweptHolder responseBytes subscriberBytes changeBytes notificationEntry notificationBytes keepAliveBytes freshOf openOf sweepOf closeOf heardAt sentAt toldAt beatingAt tickStep holderAt muteAt isHeldByOther isSubscribed isOutOfTurn isFull statusOf mutedOf doneOf answerOf ranBy runOf ranWith ranFirst lastOf responseTo responsesOf commandsOf keptAlive soundOf notifiedOf notifying reminding takenBy messageBy openBy closeBy rules.tickBy takeBy resetBy rule beatBytes
 worked = (refl, refl)

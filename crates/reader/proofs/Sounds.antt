@@ -12,7 +12,7 @@ use Rattle.frame.specs.Limits.{response, keepAlive}
 use Rattle.frame.specs.Header.{pduType, messageCount}
 use Rattle.frame.specs.Entry.{leastEntry, entriesFill}
 use Rattle.frame.specs.Decide.{keepAliveFill, dataSound}
-use Rattle.frame.specs.Sound.{SoundAt}
+use Rattle.frame.specs.Scaffold.{SoundAt}
 use Rattle.frame.proofs.Headers.{sound-header}
 use Rattle.fields.proofs.Places.{entry-length}
 use Rattle.reader.specs.Read.{dataOf}

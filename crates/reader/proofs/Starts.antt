@@ -13,7 +13,7 @@ use Rattle.frame.specs.Limits.{headerEnd}
 use Rattle.frame.specs.Header.{pduType, messageCount}
 use Rattle.frame.specs.Entry.{leastEntry, entrySize}
 use Rattle.frame.specs.Decide.{decide}
-use Rattle.frame.specs.Sound.{SoundAt}
+use Rattle.frame.specs.Scaffold.{SoundAt}
 use Rattle.frame.specs.declared.Decision.{Decision}
 use Rattle.frame.specs.declared.Decision.the-variants.{Undecided, Faulty, Sound}
 use Rattle.frame.proofs.Headers.{sound-header}

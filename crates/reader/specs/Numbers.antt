@@ -39,7 +39,8 @@ commandNumbers c = 0 ∷ c .handle ∷ c .target ∷ c .method .level ∷ c .met
 
 unfoldable pub notificationNumbers : NotificationFields → List ℕ
 notificationNumbers n =
-    notification ∷ n .target ∷ n .method .level ∷ n .method .index ∷ n .count ∷ n .context ∷ n .emitter ∷ n .event .level ∷ n .event .index ∷ []
+    notification ∷ n .target ∷ n .method .level ∷ n .method .index ∷ n .count
+    ∷ n .context ∷ n .emitter ∷ n .event .level ∷ n .event .index ∷ []
 
 unfoldable pub responseNumbers : ResponseFields → List ℕ
 responseNumbers r = response ∷ r .handle ∷ r .status ∷ r .count ∷ []

@@ -3,6 +3,7 @@ use fields::CommandFields;
 use fields::NotificationFields;
 use fields::ResponseFields;
 use frame::Decision;
+use frame::places;
 use heartbeat::Heartbeat;
 ghost use mathlib.Core.Path.{_≡_};
 ghost use mathlib.Core.List.{[], _∷_};
@@ -10,11 +11,12 @@ ghost use Prim.Native.Nat.{_≤_};
 ghost use lib.ListN.{length};
 ghost use Rattle.frame.specs.Entry.{leastEntry};
 ghost use Rattle.frame.specs.Header.{pduType};
-ghost use Rattle.frame.specs.Sound.{SoundAt};
+ghost use Rattle.frame.specs.Scaffold.{SoundAt};
 ghost use Rattle.fields.specs.Place.{entriesFrom};
 ghost use Rattle.reader.specs.Numbers.{messageNumbers, readingNumbers, entryNumbers};
 ghost use Rattle.reader.specs.Read.{dataOf, messageOf, readOf};
-ghost use Rattle.reader.specs.Entry.{hasEntry, fieldsOf, entryAt, entryIn, entryOf, partIn, partOf, partStartIn, partStart, PartStands};
+ghost use Rattle.reader.specs.Entry.{hasEntry, fieldsOf, entryAt, entryIn, entryOf, partIn, partOf};
+ghost use Rattle.reader.specs.Entry.{partStartIn, partStart, PartStands};
 ghost use Rattle.reader.specs.Tell.{NumbersTell};
 ghost use Rattle.reader.specs.Examples.{ExamplesRead};
 
@@ -60,10 +62,10 @@ fn message_in(s: &[u8], n: usize) -> Message
     requires { ⌜ SoundAt (now s) n ⌝ }
     ensures { λ r. ⌜ messageNumbers r ≡ messageOf (now (s .entry)) n ⌝ }
 {
-    if s[7] == frame::KEEP_ALIVE {
+    if s[places::TYPE] == frame::KEEP_ALIVE {
         return Message::KeepAlive(fields::heartbeat_of(&s[frame::HEADER_END..n]));
     }
-    message_of(s[7], octets::be16(s, 8))
+    message_of(s[places::TYPE], octets::be16(s, places::MESSAGE_COUNT))
 }
 
 // The message at the front of s.
@@ -91,7 +93,7 @@ fn entry_at<'a>(s: &'a [u8], n: usize, index: usize) -> &'a [u8]
     requires { ⌜ SoundAt (now s) n ⌝ }
     ensures { λ r. ⌜ now r ≡ entryAt (now (s .entry)) n index ⌝ }
 {
-    fields::entry_bytes(&s[frame::HEADER_END..n], s[7], index)
+    fields::entry_bytes(&s[frame::HEADER_END..n], s[places::TYPE], index)
 }
 
 fn fields_of(kind: u8, e: &[u8]) -> Entry
@@ -111,8 +113,12 @@ fn entry_in(s: &[u8], n: usize, index: usize) -> Entry
     requires { ⌜ SoundAt (now s) n ⌝ }
     ensures { λ r. ⌜ entryNumbers r ≡ entryIn (now (s .entry)) n index ⌝ }
 {
-    if has_entry(s[7], octets::be16(s, 8), index) {
-        return fields_of(s[7], entry_at(s, n, index));
+    if has_entry(
+        s[places::TYPE],
+        octets::be16(s, places::MESSAGE_COUNT),
+        index,
+    ) {
+        return fields_of(s[places::TYPE], entry_at(s, n, index));
     }
     Entry::NoEntry
 }
@@ -132,8 +138,12 @@ fn part_in<'a>(s: &'a [u8], n: usize, index: usize) -> &'a [u8]
     requires { ⌜ SoundAt (now s) n ⌝ }
     ensures { λ r. ⌜ now r ≡ partIn (now (s .entry)) n index ⌝ }
 {
-    if has_entry(s[7], octets::be16(s, 8), index) {
-        return fields::parameters(s[7], entry_at(s, n, index));
+    if has_entry(
+        s[places::TYPE],
+        octets::be16(s, places::MESSAGE_COUNT),
+        index,
+    ) {
+        return fields::parameters(s[places::TYPE], entry_at(s, n, index));
     }
     &s[..0]
 }
@@ -154,16 +164,20 @@ fn entries_at<'a>(s: &'a [u8], n: usize, index: usize) -> &'a [u8]
     requires { ⌜ SoundAt (now s) n ⌝ }
     ensures { λ r. ⌜ now r ≡ entriesFrom index (pduType (now (s .entry))) (dataOf (now (s .entry)) n) ⌝ }
 {
-    fields::entries_from(&s[frame::HEADER_END..n], s[7], index)
+    fields::entries_from(&s[frame::HEADER_END..n], s[places::TYPE], index)
 }
 
 fn start_in(s: &[u8], n: usize, index: usize) -> usize
     requires { ⌜ SoundAt (now s) n ⌝ }
     ensures { λ r. ⌜ r ≡ partStartIn (now (s .entry)) n index ⌝ }
 {
-    if has_entry(s[7], octets::be16(s, 8), index) {
+    if has_entry(
+        s[places::TYPE],
+        octets::be16(s, places::MESSAGE_COUNT),
+        index,
+    ) {
         let entries = entries_at(s, n, index);
-        return n - entries.len() + frame::least_entry(s[7]);
+        return n - entries.len() + frame::least_entry(s[places::TYPE]);
     }
     0
 }

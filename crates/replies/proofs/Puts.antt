@@ -8,15 +8,16 @@ use lib.Seq.{sets, length-take-le}
 use Rattle.laws.proofs.Stores.{sets-append}
 use Rattle.octets.specs.Numbers.{bytes16, bytes32}
 use Rattle.octets.proofs.Digits.{length-bytes16, length-bytes32}
+use Rattle.heartbeat.specs.Beat.{formOf, valueOf}
 use Rattle.heartbeat.specs.declared.Heartbeat.{Heartbeat}
 use Rattle.heartbeat.specs.declared.Heartbeat.the-variants.{InSeconds, InMilliseconds}
 use Rattle.frame.specs.Limits.{leastResponse, leastNotification, notification, keepAlive}
-use Rattle.layout.specs.Message.{sizeOf, headBytes, message, atFront}
+use Rattle.layout.specs.Message.{sizeOf, headBytes, message, beatBytes, atFront}
 use Rattle.layout.proofs.Messages.{length-message, put-whole}
 use Rattle.subscription.specs.declared.Subscription.{Subscription}
 use Rattle.objects.specs.Methods.{methodNumber}
 use Rattle.objects.specs.declared.Answer.{Answer}
-use Rattle.replies.specs.Bytes.{responseBytes, subscriberBytes, changeBytes, notificationEntry, notificationBytes, heartbeatBytes, keepAliveBytes}
+use Rattle.replies.specs.Bytes.{responseBytes, subscriberBytes, changeBytes, notificationEntry, notificationBytes, keepAliveBytes}
 
 -- a run behind a run of known length
 behind : (vs ws l : List ℕ) (i j : ℕ) → i + length vs ≡ j → sets (sets l i vs) j ws ≡ sets l i (vs ++ ws)
@@ -78,6 +79,6 @@ notification-stores s value b0 b1 b2 b3 h e1 e2 e3 =
     ∙ put-whole notification 1 40 b0 (notificationEntry s value) (omega arith) (omega arith)
 
 pub length-keep-alive : (h : Heartbeat) → length (keepAliveBytes h) ≤ 14
-unfolding keepAliveBytes heartbeatBytes
+unfolding keepAliveBytes beatBytes formOf valueOf
 length-keep-alive (InSeconds s) = omega (arith, length-message keepAlive 1 (bytes16 (s .0)), length-bytes16 (s .0))
 length-keep-alive (InMilliseconds m) = omega (arith, length-message keepAlive 1 (bytes32 (m .0)), length-bytes32 (m .0))

@@ -2,11 +2,11 @@
 use Prim.Native.Nat.{ℕ, _+_}
 use mathlib.Core.List.{List, [], _∷_, _++_}
 use lib.ListN.{take}
-use Rattle.octets.specs.Numbers.{bytes16, bytes32}
+use Rattle.octets.specs.Numbers.{bytes32}
+use Rattle.heartbeat.specs.Beat.{formOf, valueOf}
 use Rattle.heartbeat.specs.declared.Heartbeat.{Heartbeat}
-use Rattle.heartbeat.specs.declared.Heartbeat.the-variants.{InSeconds, InMilliseconds}
 use Rattle.frame.specs.Limits.{leastNotification, leastResponse, notification, keepAlive}
-use Rattle.layout.specs.Message.{message}
+use Rattle.layout.specs.Message.{message, beatBytes}
 use Rattle.subscription.specs.declared.Subscription.{Subscription}
 use Rattle.objects.specs.Methods.{methodNumber}
 use Rattle.objects.specs.declared.Answer.{Answer}
@@ -35,10 +35,6 @@ notificationEntry s value = subscriberBytes s ++ changeBytes s value
 unfoldable pub notificationBytes : Subscription → ℕ → List ℕ
 notificationBytes s value = message notification 1 (notificationEntry s value)
 
--- "2 bytes of seconds, or 4 bytes of milliseconds"
-unfoldable pub heartbeatBytes : Heartbeat → List ℕ
-heartbeatBytes (InSeconds s) = bytes16 (s .0)
-heartbeatBytes (InMilliseconds m) = bytes32 (m .0)
-
+-- a keep-alive in the form and with the value of a heartbeat
 unfoldable pub keepAliveBytes : Heartbeat → List ℕ
-keepAliveBytes h = message keepAlive 1 (heartbeatBytes h)
+keepAliveBytes h = message keepAlive 1 (beatBytes (formOf h) (valueOf h))

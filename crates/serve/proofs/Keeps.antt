@@ -17,7 +17,7 @@ use Rattle.heartbeat.specs.declared.Heartbeat.the-variants.{InSeconds, InMillis
 use Rattle.frame.specs.Limits.{headerEnd, notification, keepAlive, secondsBytes}
 use Rattle.frame.specs.Header.{pduType, messageCount}
 use Rattle.frame.specs.Entry.{entrySize}
-use Rattle.frame.specs.Sound.{SoundAt}
+use Rattle.frame.specs.Scaffold.{SoundAt}
 use Rattle.fields.specs.Fields.{heartbeatOf}
 use Rattle.connection.specs.State.{closed, liveAt, isLive}
 use Rattle.connection.specs.Obeys.{topMilliseconds}

@@ -13,7 +13,7 @@ use Rattle.frame.specs.Limits.{headerEnd, response, keepAlive}
 use Rattle.frame.specs.Header.{pduType, messageCount}
 use Rattle.frame.specs.Entry.{entrySize, entriesFill}
 use Rattle.frame.specs.Decide.{keepAliveFill, dataSound}
-use Rattle.frame.specs.Sound.{SoundAt}
+use Rattle.frame.specs.Scaffold.{SoundAt}
 use Rattle.frame.proofs.Entries.{entry-at, entries-first, least-command}
 use Rattle.frame.proofs.Headers.{sound-header}
 use Rattle.layout.specs.Message.{headBytes, message, atFront}

@@ -6,7 +6,7 @@ use mathlib.Core.Bool.{true}
 use mathlib.Core.List.{List}
 use lib.ListN.{length}
 use Rattle.octets.specs.Numbers.{Octets}
-use Rattle.frame.specs.Sound.{SoundAt}
+use Rattle.frame.specs.Scaffold.{SoundAt}
 use Rattle.connection.specs.State.{liveAt}
 use Rattle.device.specs.State.{livesIn, sentAt, toldAt}
 use Rattle.device.specs.Obeys.{deviceObeys}

@@ -9,7 +9,7 @@ ghost use lib.Seq.{sets};
 ghost use lib.Dec.{eqb};
 ghost use Rattle.frame.specs.Limits.{leastResponse};
 ghost use Rattle.frame.specs.Entry.{entriesFill};
-ghost use Rattle.frame.specs.Sound.{SoundAt};
+ghost use Rattle.frame.specs.Scaffold.{SoundAt};
 ghost use Rattle.layout.specs.Message.{atFront};
 ghost use Rattle.replies.specs.Bytes.{responseBytes};
 ghost use Rattle.serve.specs.Serve.{lastOf, responsesOf};
@@ -95,7 +95,7 @@ pub fn sound(device: Device, n: u8, m: &[u8], out: &mut [u8]) -> Ruling
     ensures { λ r. ⌜ (let q = soundOf device n (now (m .entry)) in
         (r .device ≡ q .device) × (r .length ≡ length (q .reply)) × (now (out .exit) ≡ atFront (q .reply) (now (out .entry)))) ⌝ }
 {
-    let kind = m[7];
+    let kind = m[frame::places::TYPE];
     if kind == frame::KEEP_ALIVE {
         let h = fields::heartbeat_of(&m[frame::HEADER_END..]);
         let length = replies::put_keep_alive(out, h);
@@ -106,7 +106,14 @@ pub fn sound(device: Device, n: u8, m: &[u8], out: &mut [u8]) -> Ruling
     }
     let d = device.heard(n);
     if kind < frame::NOTIFICATION {
-        return commands(d, n, kind, octets::be16(m, 8), &m[frame::HEADER_END..], out);
+        return commands(
+            d,
+            n,
+            kind,
+            octets::be16(m, frame::places::MESSAGE_COUNT),
+            &m[frame::HEADER_END..],
+            out,
+        );
     }
     Ruling {
         device: d,

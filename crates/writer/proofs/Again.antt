@@ -14,7 +14,7 @@ use Rattle.laws.proofs.Conds.{cond-left, cond-right}
 use Rattle.laws.proofs.Parts.{nil-of}
 use Rattle.octets.specs.Numbers.{be16At, be32At, bytes16, bytes32, Octets}
 use Rattle.octets.proofs.Digits.{be16-small, bytes16-be16, bytes32-be32, octets-take, octets-drop}
-use Rattle.heartbeat.specs.Beat.{secondsForm, millisecondsForm, formOf, valueOf}
+use Rattle.heartbeat.specs.Beat.{secondsForm, millisecondsForm, formOf, valueOf, greatestSeconds}
 use Rattle.heartbeat.specs.declared.Heartbeat.the-variants.{InSeconds, InMilliseconds}
 use Rattle.numbers.specs.Fault.{faultCount}
 use Rattle.frame.specs.Limits.{greatestSize, response, keepAlive, secondsBytes, millisecondsBytes}
@@ -32,8 +32,8 @@ use Rattle.reader.specs.Read.{dataOf, messageOf, readBy, readOf}
 use Rattle.reader.proofs.Sounds.{keep-data}
 use Rattle.numbers.specs.Refusal.{notRefused}
 use Rattle.writer.specs.Numbers.{Writing, writtenNumbers}
-use Rattle.layout.specs.Message.{sizeOf, message, atFront}
-use Rattle.writer.specs.Write.{leastRoom, greatestSeconds, written, startOf, appendOf, beatFits, beatBytes, keepAliveOf}
+use Rattle.layout.specs.Message.{sizeOf, message, atFront, beatBytes}
+use Rattle.writer.specs.Write.{leastRoom, written, startOf, appendOf, beatFits, keepAliveOf}
 use Rattle.writer.specs.Round.{Made, started, appended, entriesOf, entriesIn}
 use Rattle.layout.proofs.Messages.{length-message}
 use Rattle.writer.proofs.Messages.{length-data}

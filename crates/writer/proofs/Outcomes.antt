@@ -9,7 +9,7 @@ use lib.ListN.{length, length-append}
 use borrow.Author.Tests.{lt-ltb, le-ltb, le-leb, lt-leb, eq-eqb, ne-eqb, ltb-false}
 use Rattle.octets.specs.Numbers.{bytes16, bytes32}
 use Rattle.octets.proofs.Digits.{length-bytes16, length-bytes32}
-use Rattle.heartbeat.specs.Beat.{secondsForm, millisecondsForm}
+use Rattle.heartbeat.specs.Beat.{secondsForm, millisecondsForm, greatestSeconds}
 use Rattle.frame.specs.Limits.{headerEnd, greatestSize, response, keepAlive}
 use Rattle.frame.specs.Header.{pduType, messageCount}
 use Rattle.frame.specs.Entry.{entriesFill, wellFormed}
@@ -20,8 +20,8 @@ use Rattle.writer.specs.declared.Written.the-variants.{Length, NoRoom, F
 use Rattle.writer.specs.Numbers.{writing, writtenNumbers}
 use Rattle.reader.specs.Read.{dataOf}
 use Rattle.reader.proofs.Sounds.{entries-data}
-use Rattle.layout.specs.Message.{sizeOf, message, atFront}
-use Rattle.writer.specs.Write.{leastRoom, greatestSeconds, unwritten, written, offered, startOf, appendSound, appendBy, appendOf, beatFits, beatBytes, keepAliveOf}
+use Rattle.layout.specs.Message.{sizeOf, message, atFront, beatBytes}
+use Rattle.writer.specs.Write.{leastRoom, unwritten, written, offered, startOf, appendSound, appendBy, appendOf, beatFits, keepAliveOf}
 use Rattle.frame.proofs.Entries.{entries-few}
 use Rattle.frame.proofs.Headers.{sound-header}
 use Rattle.frame.proofs.Sounds.{sound-at}

@@ -12,7 +12,7 @@ use borrow.Author.Tests.{eq-eqb, ne-eqb, lt-ltb, le-ltb, ltb-false, leb-true, eq
 use Rattle.laws.proofs.Conds.{and-left, and-right}
 use Rattle.octets.specs.Numbers.{bytes16, bytes32}
 use Rattle.octets.proofs.Digits.{be16-bytes, be32-bytes, length-bytes16, length-bytes32}
-use Rattle.heartbeat.specs.Beat.{secondsForm, millisecondsForm, formOf, valueOf}
+use Rattle.heartbeat.specs.Beat.{secondsForm, millisecondsForm, formOf, valueOf, greatestSeconds}
 use Rattle.frame.specs.Limits.{greatestSize, response, keepAlive}
 use Rattle.frame.specs.Header.{pduType, messageCount, countFault}
 use Rattle.frame.specs.Entry.{entriesFill, wellFormed}
@@ -26,8 +26,8 @@ use Rattle.reader.specs.Read.{dataOf, messageOf, readBy, readOf}
 use Rattle.reader.specs.Entry.{hasEntry, entryIn, entryBy, entryOf, partIn, partBy, partOf}
 use Rattle.numbers.specs.Refusal.{notRefused, tooLong, badEntry, noRoom}
 use Rattle.writer.specs.Numbers.{Writing}
-use Rattle.layout.specs.Message.{sizeOf, message, atFront}
-use Rattle.writer.specs.Write.{leastRoom, greatestSeconds, unwritten, written, offered, startOf, appendSound, appendBy, appendOf, beatFits, beatBytes, keepAliveOf}
+use Rattle.layout.specs.Message.{sizeOf, message, atFront, beatBytes}
+use Rattle.writer.specs.Write.{leastRoom, unwritten, written, offered, startOf, appendSound, appendBy, appendOf, beatFits, keepAliveOf}
 use Rattle.writer.specs.Round.{Made, started, appended, entriesOf, entriesIn, ReadsAs}
 use Rattle.layout.proofs.Messages.{length-message}
 use Rattle.writer.proofs.Outcomes.{sound-entries, well-kind, beat-good}

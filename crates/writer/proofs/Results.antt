@@ -9,7 +9,7 @@ use lib.ListN.{length, getD}
 use borrow.Author.Tests.{ltb-true}
 use Rattle.laws.proofs.Inverse.{undone-tells}
 use Rattle.octets.specs.Numbers.{bytes16, bytes32}
-use Rattle.heartbeat.specs.Beat.{secondsForm, millisecondsForm}
+use Rattle.heartbeat.specs.Beat.{secondsForm, millisecondsForm, greatestSeconds, greatestMilliseconds}
 use Rattle.frame.specs.Limits.{greatestSize}
 use Rattle.frame.specs.Header.{pduType, messageCount}
 use Rattle.frame.specs.Entry.{wellFormed}
@@ -22,8 +22,8 @@ use Rattle.reader.specs.Read.{dataOf}
 use Rattle.writer.specs.declared.Written.{Written}
 use Rattle.writer.specs.declared.Written.the-variants.{Length, NoRoom, Fault, TooLong, BadEntry}
 use Rattle.writer.specs.Numbers.{writtenNumbers, Writing, writing}
-use Rattle.layout.specs.Message.{sizeOf, message}
-use Rattle.writer.specs.Write.{leastRoom, greatestSeconds, unwritten, written, offered, appendSound, appendBy, appendOf, beatFits, beatBytes}
+use Rattle.layout.specs.Message.{sizeOf, message, beatBytes}
+use Rattle.writer.specs.Write.{leastRoom, unwritten, written, offered, appendSound, appendBy, appendOf, beatFits}
 use Rattle.writer.specs.Round.{Made, ReadAfterWrite, WriteAfterRead, OneResult}
 use Rattle.writer.proofs.Readings.{start-reads, append-reads, made-reads, beat-reads, beat-taken, sound-reads}
 use Rattle.writer.proofs.Again.{entries-again, keep-again, made-bytes}
@@ -36,12 +36,12 @@ read-after-write =
       append = append-reads;
       all = λ buf kind es n after. made-reads;
       bytes = λ buf kind es n after. made-bytes;
-      beat = beat-reads;
+      beat = λ buf form value n h. beat-reads buf form value n (omega (arith, h));
       ends = λ buf room. (
         beat-taken buf secondsForm 0 room refl (omega arith),
         beat-taken buf secondsForm greatestSeconds room refl (omega arith),
         beat-taken buf millisecondsForm 0 room refl (omega arith),
-        beat-taken buf millisecondsForm 4294967295 room refl (omega arith),
+        beat-taken buf millisecondsForm greatestMilliseconds room refl (omega arith),
       );
     }
 

@@ -5,7 +5,7 @@ use mathlib.Core.List.{List, [], _∷_, _++_}
 use lib.ListN.{length, getD, take, drop}
 use Rattle.laws.specs.Lists.{joined}
 use Rattle.octets.specs.Numbers.{Octets}
-use Rattle.heartbeat.specs.Beat.{secondsForm, millisecondsForm}
+use Rattle.heartbeat.specs.Beat.{secondsForm, millisecondsForm, greatestSeconds, greatestMilliseconds}
 use Rattle.frame.specs.Limits.{headerEnd, response, keepAlive}
 use Rattle.frame.specs.Header.{pduType, messageCount}
 use Rattle.frame.specs.Entry.{entrySize}
@@ -18,7 +18,7 @@ use Rattle.reader.specs.Entry.{fieldsOf, entryAt, entryOf, partOf}
 use Rattle.writer.specs.declared.Written.{Written}
 use Rattle.writer.specs.Numbers.{writtenNumbers, Writing, writing}
 use Rattle.layout.specs.Message.{message, atFront}
-use Rattle.writer.specs.Write.{leastRoom, greatestSeconds, written, startOf, appendOf, keepAliveOf}
+use Rattle.writer.specs.Write.{leastRoom, written, startOf, appendOf, keepAliveOf}
 
 -- a start and appends into buf, none refused, with the entries es: the last answers n, and leaves the buffer after
 pub data Made (buf : List ℕ) (kind : ℕ) : List (List ℕ) → ℕ → List ℕ → Type 0 where
@@ -54,7 +54,7 @@ pub record ReadAfterWrite : Type 0 where
   -- the bytes: the message of those entries at the buffer's front
   pub bytes : (buf : List ℕ) (kind : ℕ) (es : List (List ℕ)) (n : ℕ) (after : List ℕ) → Made buf kind es n after
       → (n ≡ length (joined es) + headerEnd) × (after ≡ atFront (message kind (length es) (joined es)) buf)
-  pub beat : (buf : List ℕ) (form value n : ℕ) → value < 4294967296
+  pub beat : (buf : List ℕ) (form value n : ℕ) → value ≤ greatestMilliseconds
       → keepAliveOf buf form value .answer ≡ notRefused ∷ n ∷ []
       → readOf (keepAliveOf buf form value .buffer) ≡ notRefused ∷ n ∷ keepAlive ∷ 1 ∷ form ∷ value ∷ []
   -- zero and the largest values too
@@ -63,8 +63,8 @@ pub record ReadAfterWrite : Type 0 where
       × (readOf (keepAliveOf buf secondsForm greatestSeconds .buffer)
       ≡ notRefused ∷ 12 ∷ keepAlive ∷ 1 ∷ secondsForm ∷ greatestSeconds ∷ [])
       × (readOf (keepAliveOf buf millisecondsForm 0 .buffer) ≡ notRefused ∷ 14 ∷ keepAlive ∷ 1 ∷ millisecondsForm ∷ 0 ∷ [])
-      × (readOf (keepAliveOf buf millisecondsForm 4294967295 .buffer)
-      ≡ notRefused ∷ 14 ∷ keepAlive ∷ 1 ∷ millisecondsForm ∷ 4294967295 ∷ [])
+      × (readOf (keepAliveOf buf millisecondsForm greatestMilliseconds .buffer)
+      ≡ notRefused ∷ 14 ∷ keepAlive ∷ 1 ∷ millisecondsForm ∷ greatestMilliseconds ∷ [])
 
 -- what was read is written again as the same bytes, into any buffer that has room
 pub record WriteAfterRead : Type 0 where
@@ -79,6 +79,7 @@ pub record WriteAfterRead : Type 0 where
 pub record OneResult : Type 0 where
   pub numbers : (a b : Written) → writtenNumbers a ≡ writtenNumbers b → a ≡ b
   pub results : (o : Writing) (a b : Written) (s t : List ℕ) → writing a s ≡ o → writing b t ≡ o → (a ≡ b) × (s ≡ t)
-  pub runs : (buf : List ℕ) (kind : ℕ) (es : List (List ℕ)) (m n : ℕ) (s t : List ℕ) → Made buf kind es m s → Made buf kind es n t → (m ≡ n) × (s ≡ t)
+  pub runs : (buf : List ℕ) (kind : ℕ) (es : List (List ℕ)) (m n : ℕ) (s t : List ℕ) → Made buf kind es m s → Made buf kind es n t
+      → (m ≡ n) × (s ≡ t)
   -- 2,049 bytes always decide: append refuses by 4 only where the buffer is under 2,049
   pub room : (buf : List ℕ) (kind : ℕ) (e : List ℕ) → appendOf buf kind e .answer ≡ noRoom ∷ [] → length buf < leastRoom

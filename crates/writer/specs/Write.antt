@@ -4,9 +4,8 @@ use mathlib.Core.List.{List, [], _∷_, _++_}
 use mathlib.Core.Bool.{Bool, cond, _&&_}
 use lib.ListN.{length}
 use lib.Dec.{ltb, leb, eqb}
-use Rattle.octets.specs.Numbers.{bytes16, bytes32}
-use Rattle.heartbeat.specs.Beat.{secondsForm, millisecondsForm}
-use Rattle.frame.specs.Limits.{greatestSize, keepAlive}
+use Rattle.heartbeat.specs.Beat.{secondsForm, millisecondsForm, greatestSeconds}
+use Rattle.frame.specs.Limits.{greatestSize, longestMessage, keepAlive}
 use Rattle.frame.specs.Header.{pduType, messageCount}
 use Rattle.frame.specs.Entry.{wellFormed}
 use Rattle.frame.specs.Decide.{decide}
@@ -15,15 +14,11 @@ use Rattle.frame.specs.declared.Decision.the-variants.{Undecided, Faulty, Sound
 use Rattle.numbers.specs.Refusal.{fault, notRefused, noRoom, tooLong, badEntry}
 use Rattle.reader.specs.Read.{dataOf}
 use Rattle.writer.specs.Numbers.{Writing}
-use Rattle.layout.specs.Message.{sizeOf, message, atFront}
+use Rattle.layout.specs.Message.{sizeOf, message, atFront, beatBytes}
 
 -- "output under .. 2,049 (writer)"
 abbrev pub leastRoom : ℕ
-leastRoom = 2049
-
--- "a keep-alive to be written in seconds with a value above 65,535"
-abbrev pub greatestSeconds : ℕ
-greatestSeconds = 65535
+leastRoom = longestMessage
 
 -- "On refusal .. all buffers stay as they were; the answer .. is the number alone, with a fault for 8"
 unfoldable pub unwritten : ℕ → List ℕ → Writing
@@ -64,10 +59,6 @@ appendOf buf kind e = cond (ltb (length buf) leastRoom) (unwritten noRoom buf) (
 -- the forms are seconds and milliseconds, and 2 bytes of seconds hold no more than 65,535
 unfoldable pub beatFits : ℕ → ℕ → Bool
 beatFits form value = cond (eqb form secondsForm) (leb value greatestSeconds) (eqb form millisecondsForm)
-
--- "2 bytes of seconds, or 4 bytes of milliseconds"
-unfoldable pub beatBytes : ℕ → ℕ → List ℕ
-beatBytes form value = cond (eqb form secondsForm) (bytes16 value) (bytes32 value)
 
 -- "writes a keep-alive from a form and value"
 unfoldable pub keepAliveOf : List ℕ → ℕ → ℕ → Writing

@@ -14,9 +14,7 @@ ghost use Rattle.writer.specs.Round.{ReadAfterWrite, WriteAfterRead, One
 ghost use Rattle.writer.specs.Write.{leastRoom, startOf, appendSound, appendOf, keepAliveOf};
 
 // Room for the longest message.
-pub const ROOM: usize = 2049;
-
-pub const GREATEST_SECONDS: u32 = 65535;
+pub const ROOM: usize = frame::LONGEST_MESSAGE;
 
 const SECONDS_LENGTH: usize = frame::HEADER_END + frame::SECONDS_BYTES;
 
@@ -59,9 +57,11 @@ pub fn start(buf: &mut [u8], kind: u8, e: &[u8]) -> Written
 // The message of n bytes, with one entry more: only its header and the bytes behind it are written.
 fn put_more(buf: &mut [u8], n: usize, kind: u8, e: &[u8])
     requires { ⌜ (headerEnd ≤ n) × (n + length (now e) ≤ leastRoom) × (leastRoom ≤ length (now buf)) × (messageCount (now buf) < 65535) ⌝ }
-    ensures { λ _. ⌜ now (buf .exit) ≡ atFront (message kind (messageCount (now (buf .entry)) + 1) (dataOf (now (buf .entry)) n ++ now (e .entry))) (now (buf .entry)) ⌝ }
+    ensures { λ _. ⌜ now (buf .exit)
+        ≡ atFront (message kind (messageCount (now (buf .entry)) + 1) (dataOf (now (buf .entry)) n ++ now (e .entry)))
+        (now (buf .entry)) ⌝ }
 {
-    let count = octets::be16(&buf[0..], 8);
+    let count = octets::be16(&buf[0..], frame::places::MESSAGE_COUNT);
     layout::put_head(buf, kind, count + 1, (n + e.len() - 1) as u32);
     octets::copy(e, buf, n);
 }
@@ -70,7 +70,7 @@ fn append_sound(buf: &mut [u8], n: usize, kind: u8, e: &[u8]) -> Written
     requires { ⌜ (leastRoom ≤ length (now buf)) × (decide (now buf) ≡ Sound n) ⌝ }
     ensures { λ r. ⌜ writing r (now (buf .exit)) ≡ appendSound n (now (buf .entry)) kind (now (e .entry)) ⌝ }
 {
-    if kind != buf[7] {
+    if kind != buf[frame::places::TYPE] {
         return Written::BadEntry;
     }
     if !frame::well_formed(kind, e) {
@@ -112,7 +112,7 @@ pub fn keep_alive(buf: &mut [u8], form: u8, value: u32) -> Written
     if form != heartbeat::SECONDS_FORM {
         return Written::BadEntry;
     }
-    if GREATEST_SECONDS < value {
+    if heartbeat::GREATEST_SECONDS < value {
         return Written::BadEntry;
     }
     layout::put_seconds(buf, heartbeat::Seconds(value as u16));

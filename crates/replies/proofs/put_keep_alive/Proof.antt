@@ -1,4 +1,6 @@
-use Rattle.replies.specs.Bytes.{heartbeatBytes, keepAliveBytes}
+use Rattle.replies.specs.Bytes.{keepAliveBytes}
+use Rattle.heartbeat.specs.Beat.{formOf, valueOf}
+use Rattle.layout.specs.Message.{beatBytes}
 use Rattle.heartbeat.specs.declared.Heartbeat.the-variants.{InSeconds, InMilliseconds}
 use Rattle.frame.specs.Limits.{keepAlive}
 use Rattle.octets.specs.Numbers.{bytes16, bytes32}
@@ -26,7 +28,7 @@ same-length : tie.Need-same-length
 same-length c = search needs
 
 returns : tie.Need-returns
-unfolding keepAliveBytes heartbeatBytes
+unfolding keepAliveBytes beatBytes formOf valueOf
 returns c =
     let a = c .before .before .before .before .before .before .before .before .args in
     let s = c .before .before .before .before .before .h .given .0 .0 in
@@ -37,7 +39,7 @@ same-length-2 : tie.Need-same-length-2
 same-length-2 c = search needs
 
 returns-2 : tie.Need-returns-2
-unfolding keepAliveBytes heartbeatBytes
+unfolding keepAliveBytes beatBytes formOf valueOf
 returns-2 c =
     let a = c .before .before .before .before .before .before .before .before .args in
     let m = c .before .before .before .before .before .h2 .given .0 .0 in

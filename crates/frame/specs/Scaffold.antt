@@ -1,4 +1,4 @@
--- A sound message, as a record of facts.
+-- For the contracts of inner functions and for proofs: no rule is here.
 use Prim.Native.Nat.{ℕ, _≤_}
 use mathlib.Core.Path.{_≡_}
 use mathlib.Core.List.{List}

@@ -1,10 +1,13 @@
--- What the functions that put a line promise of the output.
+-- For the contracts of inner functions and for proofs: no rule is here.
 use Prim.Native.Nat.{ℕ, _+_, _≤_}
 use mathlib.Core.Path.{_≡_}
 use mathlib.Core.List.{List}
 use lib.ListN.{length}
 use lib.Seq.{sets}
-use Rattle.lines.specs.Text.{lineRoom}
+
+-- any line of a type of 8 bits, and a count, a size, a fault or a number of bytes of 16 bits, fits
+abbrev pub lineRoom : ℕ
+lineRoom = 40
 
 -- the bytes of a line were put at a place, all others stay, and the answer is the place behind them
 pub record Puts (line before : List ℕ) (at : ℕ) (after : List ℕ) (r : ℕ) : Type 0 where
