@@ -5,7 +5,7 @@ use mathlib.Core.List.{List, _++_}
 use mathlib.Core.Bool.{Bool, false, _||_}
 use lib.ListN.{length, take}
 use lib.Dec.{eqb}
-use Rattle.lines.specs.Puts.{Puts}
+use Rattle.lines.specs.Scaffold.{Puts}
 use Rattle.lister.specs.declared.Piece.{Piece}
 use Rattle.lister.specs.declared.Next.{Next}
 use Rattle.lister.specs.Listing.{listedBytes, unlisted}
