@@ -43,7 +43,7 @@ loop-less c = search needs
 loop-again : tie.Need-loop-again Inv-loop μ-loop
 loop-again c =
     let l = c .before .before .before .before .before .before .before .before .before .before .loop in
-    let a = c .before .before .before .before .before .before .before .before .before .before .before .before .before .before .before .args in
+    let a = c .before .before .before .before .before .before .before .before .before .before .before .before .before .before .args in
     let t = l .t .now in
     let f = c .before .before .before .before .before .first in
     let z = c .before .before .before .before .before .before .before .before .first-size in
@@ -61,7 +61,7 @@ same-length-2 c = search needs
 returns : tie.Need-returns Inv-loop μ-loop
 returns c =
     let l = c .before .loop in
-    let a = c .before .before .before .before .before .before .args in
+    let a = c .before .before .before .before .before .args in
     playing-all (a .state) (a .area .now) (a .script .now) (a .output .now) (l .area) (l .output) (l .last .state) (l .last .answer) (l .t .now) (l .inv) (omega arith)
 
 pub run-spec : {M : Type 1} → statement M
