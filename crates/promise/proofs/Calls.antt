@@ -18,10 +18,10 @@ use Rattle.device.specs.declared.Opening.{Opening}
 use Rattle.device.specs.declared.Opening.the-variants as opens
 use Rattle.device.specs.declared.Ticking.{Ticking}
 use Rattle.device.specs.declared.Ticking.the-variants as ticks
-use Rattle.stream.specs.Machine.{Call, deliver, ask, asked, Answer, Held, none-held, put, only, whole, delivered, step}
+use Rattle.stream.specs.Machine.{deliver, ask, asked, Answer, Held, none-held, put, only, whole, delivered, step}
 use Rattle.stream.specs.Lent.{flat, countsOf}
-use Rattle.stream.proofs.Lent.{put-same, put-other, set-counted, clear-flat, closed-flat, held-counted, counted-none, flat-none}
-use Rattle.endpoint.specs.State.{stateOf, freshState, closedState}
+use Rattle.stream.proofs.Lent.{clear-flat, put-same, put-other, set-counted, closed-flat, held-counted, counted-none, flat-none}
+use Rattle.endpoint.specs.State.{freshState, closedState}
 use Rattle.endpoint.specs.Outcome.{Outcome, outcome}
 use Rattle.endpoint.specs.Calls.{openedBy, openCall, closeCall, tickedBy, tickCall}
 use Rattle.replies.specs.Bytes.{leastOutput}
@@ -32,8 +32,8 @@ use Rattle.endpoint.specs.Take.{takeCall, withDispatch}
 use Rattle.reset.specs.Datagram.{restarted, datagramCall}
 use Rattle.endpoint.proofs.States.{live-low}
 use Rattle.promise.specs.Rulebook as rules
-use Rattle.promise.specs.Rulebook.{Ask, opening, closing, ticking, taking, datagram, Given, rule, openBy, closeBy, takeBy, resetBy, open?, admit}
-use Rattle.promise.specs.Calls.{callOf, outcomeOf}
+use Rattle.promise.specs.Rulebook.{Ask, opening, closing, ticking, taking, datagram, Given, given, rule, openBy, closeBy, takeBy, resetBy, open?, admit}
+use Rattle.promise.specs.Calls.{HostCall, callOf, recordWith, areaWith, outcomeOf}
 use Rattle.promise.proofs.OpenConnections.{GoodAt, record-obeys, only-same, live-closed, live-gone, live-alike, lives-sent, lives-notified, open-still, lives-eight, fresh-shut}
 use Rattle.promise.proofs.DeviceLaws.{length-tick}
 use Rattle.promise.proofs.Deliveries.{small, area-sound, taken-told}
@@ -42,10 +42,14 @@ use Rattle.promise.proofs.Deliveries.{small, area-sound, taken-told}
 abbrev pub asks : Device → Held → Ask → (Device × Held) × Answer Given
 asks d h a = whole rule open? admit d h (asked a) 0
 
-abbrev pub Told : Device → Held → Call Ask (List ℕ) → Type 0
+abbrev pub Told : Device → Held → HostCall → Type 0
 Told d h c =
     let s = step rule open? admit d h c in
-    callOf (stateOf d (countsOf h 8)) (flat h 8) c ≡ outcomeOf c (s .0 .0) (s .0 .1) (s .1)
+    callOf (recordWith d h) (areaWith h) c ≡ outcomeOf c (s .0 .0) (s .0 .1) (s .1)
+
+-- what a call leaves where the rules come to s
+abbrev leaving : Held → Device × Given → Outcome
+leaving h s = outcome (s .1 .answer) (recordWith (s .0) (only (open? (s .0)) h)) (areaWith (only (open? (s .0)) h)) (s .1 .output)
 
 module _ (d : Device) (h : Held) (good : GoodAt d h) where
   -- where no open connection was closed, the bytes are as they were
@@ -67,10 +71,9 @@ module _ (d : Device) (h : Held) (good : GoodAt d h) where
   open-told = rw (record-obeys d h good) (go (openOf d .answer))
     where
       go : (x : Opening)
-          → let o = openedBy x (stateOf d (countsOf h 8)) (openOf d) in
-          let s = openBy x d (openOf d .device) in
-          outcome (o .answer) (o .state) (flat h 8) []
-          ≡ outcome (s .1 .answer) (stateOf (s .0) (countsOf (only (open? (s .0)) h) 8)) (flat (only (open? (s .0)) h) 8) (s .1 .output)
+          → let o = openedBy x (recordWith d h) (openOf d) in
+          outcome (o .answer) (o .state) (areaWith h) []
+          ≡ leaving h (openBy x d (openOf d .device))
       go (opens.Number i) = rw (still (openOf d .device) (open-still d))
       go opens.Full = rw same
 
@@ -89,10 +92,9 @@ module _ (d : Device) (h : Held) (good : GoodAt d h) where
   close-told n = rw (record-obeys d h good, area-sound d h good) (go (liveAt (d .connections) n) refl)
     where
       go : (b : Bool) → liveAt (d .connections) n ≡ b
-          → let s = closeBy b d n in
-          cond {A = Outcome} b (outcome (0 ∷ []) (closedState (stateOf d (countsOf h 8)) n) (partCleared (flat h 8) n) [])
-          (outcome (3 ∷ []) (stateOf d (countsOf h 8)) (flat h 8) [])
-          ≡ outcome (s .1 .answer) (stateOf (s .0) (countsOf (only (open? (s .0)) h) 8)) (flat (only (open? (s .0)) h) 8) (s .1 .output)
+          → cond {A = Outcome} b (outcome (0 ∷ []) (closedState (recordWith d h) n) (partCleared (areaWith h) n) [])
+          (outcome (3 ∷ []) (recordWith d h) (areaWith h) [])
+          ≡ leaving h (closeBy b d n)
       go true l =
           let low = live-low (d .connections) n 8 l (good .fine .eight) in
           rw (closed-bytes n, set-counted h 8 n [] low, clear-flat h 8 n (small d h good) low)
@@ -106,7 +108,7 @@ module _ (d : Device) (h : Held) (good : GoodAt d h) where
   pub ticked-counts : (reading : ℕ) → heldKept (livesIn (tickOf d reading .device)) (countsOf h 8) ≡ countsOf (only (open? (tickOf d reading .device)) h) 8
   ticked-counts reading = rw (← lives-eight (tickOf d reading .device) (length-ticked reading)) (held-counted (open? (tickOf d reading .device)) h 8)
 
-  pub ticked-area : (reading : ℕ) → closedCleared (livesIn (tickOf d reading .device)) (flat h 8) ≡ flat (only (open? (tickOf d reading .device)) h) 8
+  pub ticked-area : (reading : ℕ) → closedCleared (livesIn (tickOf d reading .device)) (areaWith h) ≡ flat (only (open? (tickOf d reading .device)) h) 8
   ticked-area reading = rw (← lives-eight (tickOf d reading .device) (length-ticked reading)) (closed-flat (open? (tickOf d reading .device)) h 8 (small d h good))
 
   pub tick-told : (reading : ℕ) → Told d h (ask (ticking reading))
@@ -114,9 +116,8 @@ module _ (d : Device) (h : Held) (good : GoodAt d h) where
   tick-told reading = rw (record-obeys d h good, area-sound d h good) (go (tickOf d reading .answer))
     where
       go : (x : Ticking)
-          → let s = rules.tickBy x d (tickOf d reading .device) in
-          tickedBy x (stateOf d (countsOf h 8)) (tickOf d reading) (flat h 8)
-          ≡ outcome (s .1 .answer) (stateOf (s .0) (countsOf (only (open? (s .0)) h) 8)) (flat (only (open? (s .0)) h) 8) (s .1 .output)
+          → tickedBy x (recordWith d h) (tickOf d reading) (areaWith h)
+          ≡ leaving h (rules.tickBy x d (tickOf d reading .device))
       go (ticks.Closed m) = rw (ticked-counts reading, ticked-area reading)
       go ticks.ClockBack = rw same
       go ticks.Overrun = rw same
@@ -127,17 +128,16 @@ module _ (d : Device) (h : Held) (good : GoodAt d h) where
     where
       way : (b c : Bool)
           → let q = takenBy b c d out (lowestWaiting (d .subscriptions)) (lowestDue (d .connections)) in
-          outcome (q .answer) (stateOf (q .device) (countsOf h 8)) (flat h 8) (q .output)
-          ≡ outcome (q .answer) (stateOf (q .device) (countsOf (only (open? (q .device)) h) 8)) (flat (only (open? (q .device)) h) 8) (q .output)
+          outcome (q .answer) (recordWith (q .device) h) (areaWith h) (q .output)
+          ≡ leaving h (q .device, given (q .answer) (q .output))
       way true c = rw (alike (notifiedOf d (lowestWaiting (d .subscriptions))) (lives-notified d (lowestWaiting (d .subscriptions))))
       way false true = rw (alike (sentAt d (lowestDue (d .connections))) (lives-sent d (lowestDue (d .connections))))
       way false false = rw same
 
       go : (a : Bool)
-          → let o = cond {A = Outcome} a (outcome (4 ∷ []) (stateOf d (countsOf h 8)) [] out) (withDispatch (stateOf d (countsOf h 8)) (dispatched d out)) in
-          let s = takeBy a d out in
-          outcome (o .answer) (o .state) (flat h 8) (o .output)
-          ≡ outcome (s .1 .answer) (stateOf (s .0) (countsOf (only (open? (s .0)) h) 8)) (flat (only (open? (s .0)) h) 8) (s .1 .output)
+          → let o = cond {A = Outcome} a (outcome (4 ∷ []) (recordWith d h) [] out) (withDispatch (recordWith d h) (dispatched d out)) in
+          outcome (o .answer) (o .state) (areaWith h) (o .output)
+          ≡ leaving h (takeBy a d out)
       go true = rw same
       go false = way (ltb (lowestWaiting (d .subscriptions)) entryCount) (ltb (lowestDue (d .connections)) connectionCount)
 
@@ -151,9 +151,8 @@ module _ (d : Device) (h : Held) (good : GoodAt d h) where
   datagram-told g = rw (record-obeys d h good, area-sound d h good) (go (resets (d .mechanism) g))
     where
       go : (b : Bool)
-          → let s = resetBy b d in
-          cond {A = Outcome} b (restarted (stateOf d (countsOf h 8))) (outcome (0 ∷ 0 ∷ []) (stateOf d (countsOf h 8)) (flat h 8) [])
-          ≡ outcome (s .1 .answer) (stateOf (s .0) (countsOf (only (open? (s .0)) h) 8)) (flat (only (open? (s .0)) h) 8) (s .1 .output)
+          → cond {A = Outcome} b (restarted (recordWith d h)) (outcome (0 ∷ 0 ∷ []) (recordWith d h) (areaWith h) [])
+          ≡ leaving h (resetBy b d)
       go true = rw (none-left (d .reading), counted-none 8, flat-none 8)
       go false = rw same
 
@@ -164,15 +163,15 @@ module _ (d : Device) (h : Held) (good : GoodAt d h) where
     where
       go : (l : Bool) → liveAt (d .connections) n ≡ l → (b : Bool)
           → let s = delivered rule open? admit (cond l (cond b 4 0) 3) (settled (decide (h n ++ p))) d h n p out in
-          cond {A = Outcome} l (cond b (outcome (4 ∷ []) (stateOf d (countsOf h 8)) (flat h 8) out) (withIntake (stateOf d (countsOf h 8)) n (takenIn d (flat h 8) n (getD (countsOf h 8) n 0) p out)))
-          (outcome (3 ∷ []) (stateOf d (countsOf h 8)) (flat h 8) out)
+          cond {A = Outcome} l (cond b (outcome (4 ∷ []) (recordWith d h) (areaWith h) out) (withIntake (recordWith d h) n (takenIn d (areaWith h) n (getD (countsOf h 8) n 0) p out)))
+          (outcome (3 ∷ []) (recordWith d h) (areaWith h) out)
           ≡ outcomeOf (deliver n p out) (s .0 .0) (s .0 .1) (s .1)
       go false e b = refl
       go true e true = refl
       go true e false = taken-told d h good n e p out
 
   -- THE BRIDGE: every call, by the definition that its contract cites
-  pub told : (c : Call Ask (List ℕ)) → Told d h c
+  pub told : (c : HostCall) → Told d h c
   told (deliver n p out) = deliver-told n p out
   told (ask opening) = open-told
   told (ask (closing n)) = close-told n

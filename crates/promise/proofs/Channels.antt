@@ -21,19 +21,17 @@ use Rattle.frame.specs.declared.Decision.{Decision}
 use Rattle.frame.specs.declared.Decision.the-variants.{Undecided, Faulty, Sound}
 use Rattle.fields.specs.Fields.{commandOf}
 use Rattle.area.specs.Area.{areaBytes}
-use Rattle.mechanism.specs.Arguments.{armedBy}
 use Rattle.mechanism.specs.Datagram as datagrams
 use Rattle.connection.specs.State.{liveAt, isNotOpen}
 use Rattle.connection.specs.Supervision.{fitsStep}
 use Rattle.connection.specs.declared.Connection.{Connection}
-use Rattle.subscription.specs.State.{free, isMute, twinAt, lowestUnused}
-use Rattle.objects.specs.Methods.{lockMethod, unlockMethod, setMethod, addMethod, removeMethod, resetKeyMethod, placeOf, isObject, isLocking}
-use Rattle.objects.specs.Tests.{isForbidden, subscriptionFrom}
-use Rattle.objects.specs.Answers.{failedOf}
+use Rattle.subscription.specs.State.{isMute}
+use Rattle.objects.specs.Methods.{lockMethod, placeOf, isObject, isLocking}
+use Rattle.objects.specs.Tests.{isForbidden}
 use Rattle.holders.specs.Holders.{ownerOf, holderObeys, sweptHolder}
-use Rattle.device.specs.State.{muteCount, freshOf, withSubscriptions, withHolders, withMechanism, openOf, sweepOf, closeOf, heardAt, sentAt, toldAt, beatingAt}
+use Rattle.device.specs.State.{muteCount, freshOf, openOf, sweepOf, closeOf, heardAt, sentAt, toldAt, beatingAt}
 use Rattle.device.specs.Time.{stepOf, tickStep, tickOf}
-use Rattle.device.specs.Run.{muteAt, statusOf, mutedOf, doneOf, answerOf, unchanged, ranBy}
+use Rattle.device.specs.Run.{statusOf, doneOf}
 use Rattle.device.specs.Run as commands
 use Rattle.device.specs.declared.Device.{Device}
 use Rattle.device.specs.declared.Opened.{Opened}
@@ -42,11 +40,10 @@ use Rattle.device.specs.declared.Opening.the-variants as opens
 use Rattle.device.specs.declared.Ticked.{Ticked}
 use Rattle.device.specs.declared.Ticking.{Ticking}
 use Rattle.device.specs.declared.Ticking.the-variants as ticks
-use Rattle.device.specs.declared.Ran.{Ran}
 use Rattle.device.proofs.Shapes.{target-is, status-allowed}
 use Rattle.serve.specs.Serve.{ranWith, ranFirst, lastOf}
 use Rattle.serve.specs.Sound.{Ruled, commandsOf, keptAlive, soundOf}
-use Rattle.stream.specs.Machine.{Call, handed, asked, none-held, glue, rules}
+use Rattle.stream.specs.Machine.{handed, asked, none-held, rules}
 use Rattle.stream.specs.Promise.{AllBytes}
 use Rattle.stream.specs.Lent.{flat, countsOf}
 use Rattle.endpoint.specs.State.{stateOf, freshState}
@@ -55,11 +52,12 @@ use Rattle.replies.specs.Bytes.{leastOutput}
 use Rattle.taking.specs.Dispatch.{notifiedOf}
 use Rattle.endpoint.specs.declared.Record.{Record}
 use Rattle.promise.specs.Rulebook as ruling
-use Rattle.promise.specs.Rulebook.{Ask, opening, closing, ticking, taking, datagram, Asked, Given, messageBy, openBy, closeBy, resetBy, rule, shut}
-use Rattle.promise.specs.Stream.{runCalls, machine}
+use Rattle.promise.specs.Rulebook.{opening, closing, ticking, taking, datagram, Asked, Given, messageBy, openBy, closeBy, resetBy, rule}
+use Rattle.promise.specs.Calls.{HostCall}
+use Rattle.promise.specs.Stream.{runCalls, wholeCalls}
 use Rattle.promise.specs.Reset.{asksWith, asksOver, asksIn, asksFor, nobodyAsks}
 use Rattle.promise.proofs.OpenConnections.{getD-alike}
-use Rattle.promise.proofs.Ways.{take-ways}
+use Rattle.promise.proofs.Ways.{take-ways, done-ways, run-ways}
 use Rattle.promise.proofs.Stream.{stream-theorem}
 
 -- ---- a holder at a place
@@ -91,49 +89,23 @@ lock-mute d n t count part e =
     rw (a .allowed) at (a .object)
 
 module _ (d : Device) (at : ℕ) (e : getD (d .holders) at 0 ≡ 0) where
+  -- the channel is free
+  abbrev Free : Device → Type 0
+  Free x = getD (x .holders) at 0 ≡ 0
+
   done-free : (n t m count : ℕ) (part : List ℕ) → statusOf d n t m count part ≡ 0 → (eqb t (4097 + at) && eqb m lockMethod) ≡ false → getD (doneOf d n t m part .holders) at 0 ≡ 0
-  unfolding doneOf mutedOf
-  done-free n t m count part s a = go (eqb m lockMethod) refl
+  done-free n t m count part s a =
+      done-ways Free d n t m part (λ q. getD-set-other (d .holders) (placeOf t) at (ownerOf n) 0 (elsewhere q) ∙ e)
+      (λ q. unlocked-free (d .holders) (placeOf t) at e) (λ x u v w. ap (λ (l : List ℕ). getD l at 0) w ∙ e)
     where
-      P : Device → Type 0
-      P x = getD (x .holders) at 0 ≡ 0
-
-      others : getD (cond (eqb m unlockMethod) (withHolders d (set (d .holders) (placeOf t) 0))
-          (cond (eqb m setMethod) (mutedOf d t (getD part 0 0))
-          (cond (eqb m addMethod) (withSubscriptions d (set (d .subscriptions) (lowestUnused (d .subscriptions)) (subscriptionFrom n part)))
-          (cond (eqb m removeMethod) (withSubscriptions d (set (d .subscriptions) (twinAt (subscriptionFrom n part) (d .subscriptions)) free))
-          (cond (eqb m resetKeyMethod) (withMechanism d (armedBy part))
-          d)))) .holders) at 0 ≡ 0
-      others =
-          either P (eqb m unlockMethod) _ _ (unlocked-free (d .holders) (placeOf t) at e)
-          (either P (eqb m setMethod) _ _ (either P (eqb (muteAt d t) (getD part 0 0)) _ _ e e)
-          (either P (eqb m addMethod) _ _ e (either P (eqb m removeMethod) _ _ e (either P (eqb m resetKeyMethod) _ _ e e))))
-
       elsewhere : eqb m lockMethod ≡ true → (at ≡ placeOf t → ⊥)
       elsewhere q p =
           let k : statusOf d n t lockMethod count part ≡ 0 = ap (λ (j : ℕ). statusOf d n t j count part) (sym (eqb-true m lockMethod q)) ∙ s in
           let u = target-is t at (lock-mute d n t count part k) p in
           clash ⊥ (eqb t (4097 + at) && eqb m lockMethod) (rw (eq-eqb t (4097 + at) (sym u), q)) a
 
-      go : (b : Bool) → eqb m lockMethod ≡ b
-          → getD (cond b (withHolders d (set (d .holders) (placeOf t) (ownerOf n)))
-          (cond (eqb m unlockMethod) (withHolders d (set (d .holders) (placeOf t) 0))
-          (cond (eqb m setMethod) (mutedOf d t (getD part 0 0))
-          (cond (eqb m addMethod) (withSubscriptions d (set (d .subscriptions) (lowestUnused (d .subscriptions)) (subscriptionFrom n part)))
-          (cond (eqb m removeMethod) (withSubscriptions d (set (d .subscriptions) (twinAt (subscriptionFrom n part) (d .subscriptions)) free))
-          (cond (eqb m resetKeyMethod) (withMechanism d (armedBy part))
-          d))))) .holders) at 0 ≡ 0
-      go true q = getD-set-other (d .holders) (placeOf t) at (ownerOf n) 0 (elsewhere q) ∙ e
-      go false q = others
-
   run-free : (n t m count : ℕ) (part : List ℕ) → (eqb t (4097 + at) && eqb m lockMethod) ≡ false → getD (commands.runOf d n t m count part .device .holders) at 0 ≡ 0
-  unfolding commands.runOf ranBy
-  run-free n t m count part a = go (eqb (statusOf d n t m count part) 0) refl
-    where
-      go : (b : Bool) → eqb (statusOf d n t m count part) 0 ≡ b
-          → getD (cond {A = Ran} b (record { device = doneOf d n t m part; answer = answerOf d t m }) (unchanged d (failedOf (statusOf d n t m count part))) .device .holders) at 0 ≡ 0
-      go true q = done-free n t m count part (eqb-true _ 0 q) a
-      go false q = e
+  run-free n t m count part a = run-ways Free d n t m count part (λ q. done-free n t m count part q a) e
 
 -- ---- a message
 last-free : (j : ℕ) (d : Device) (at n kind : ℕ) (t : List ℕ) → getD (d .holders) at 0 ≡ 0 → asksOver j at kind t ≡ false → getD (lastOf j d n kind t .holders) at 0 ≡ 0
@@ -210,7 +182,7 @@ rules-free d at [] e a = e
 rules-free d at (w ∷ ws) e a =
     rules-free (rule d w .0) at ws (whole-free d at w e (not-true (asksFor at w) (and-left (not (asksFor at w)) _ a))) (and-right (not (asksFor at w)) _ a)
 
-pub calls-free : (reading : ℕ) (cs : List (Call Ask (List ℕ))) → AllBytes cs → (at : ℕ) → nobodyAsks at (glue shut none-held (machine (freshOf reading) none-held cs .1) .0) ≡ true
+pub calls-free : (reading : ℕ) (cs : List HostCall) → AllBytes cs → (at : ℕ) → nobodyAsks at (wholeCalls (freshOf reading) none-held cs) ≡ true
     → getD (runCalls (freshState reading) (zeros areaBytes) cs .0 .0 .device .holders) at 0 ≡ 0
 calls-free reading cs b at a =
     let d = freshOf reading in
@@ -219,4 +191,4 @@ calls-free reading cs b at a =
     rw (stream-theorem .freshState reading, stream-theorem .freshArea) refl in
     ap (λ (x : (Record × List ℕ) × List Outcome). getD (x .0 .0 .device .holders) at 0) (same ∙ stream-theorem .real d none-held cs good b)
     ∙ sym (ap (λ (x : Device × List Given). getD (x .0 .holders) at 0) (stream-theorem .whole d none-held cs good b .same))
-    ∙ rules-free d at (glue shut none-held (machine d none-held cs .1) .0) (fresh-free reading at) a
+    ∙ rules-free d at (wholeCalls d none-held cs) (fresh-free reading at) a

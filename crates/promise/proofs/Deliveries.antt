@@ -20,18 +20,17 @@ use Rattle.stream.specs.Machine.{deliver, Held, put, only, whole, delivered}
 use Rattle.stream.specs.Lent.{flat, countsOf}
 use Rattle.stream.proofs.Lent.{Small, put-same, put-other, getD-counted, set-counted, undecided-flat, clear-flat, put-flat, area-flat}
 use Rattle.endpoint.specs.Deliver.{withIntake}
-use Rattle.endpoint.specs.State.{stateOf}
 use Rattle.delivery.specs.Intake.{messaged, deliveredBy, takenIn}
 use Rattle.endpoint.specs.declared.Record.{Record}
 use Rattle.endpoint.proofs.States.{live-low}
 use Rattle.promise.specs.Rulebook.{messageBy, rule, open?, admit}
-use Rattle.promise.specs.Calls.{withTaken, outcomeOf}
+use Rattle.promise.specs.Calls.{recordWith, areaWith, withTaken, outcomeOf}
 use Rattle.promise.proofs.OpenConnections.{GoodAt, only-same, live-closed, live-sound}
 
 pub small : (d : Device) (h : Held) → GoodAt d h → Small h
 small d h good n = omega (arith, deciding .short (h n) (unsettled (decide (h n)) (good .waiting n)))
 
-pub area-sound : (d : Device) (h : Held) → GoodAt d h → areaSound (countsOf h 8) (flat h 8) ≡ true
+pub area-sound : (d : Device) (h : Held) → GoodAt d h → areaSound (countsOf h 8) (areaWith h) ≡ true
 area-sound d h good = area-flat h (small d h good) (good .waiting)
 
 module _ (d : Device) (h : Held) (good : GoodAt d h) (n : ℕ) (live : liveAt (d .connections) n ≡ true) where
@@ -42,13 +41,13 @@ module _ (d : Device) (h : Held) (good : GoodAt d h) (n : ℕ) (live : liveAt (d
   held-is : getD (countsOf h 8) n 0 ≡ length (h n)
   held-is = getD-counted h 8 n low
 
-  bytes-are : undecidedOf (flat h 8) n (length (h n)) ≡ h n
+  bytes-are : undecidedOf (areaWith h) n (length (h n)) ≡ h n
   bytes-are = undecided-flat h 8 n (small d h good) low
 
   emptied-counts : set (countsOf h 8) n 0 ≡ countsOf (put h n []) 8
   emptied-counts = set-counted h 8 n [] low
 
-  emptied-area : partCleared (flat h 8) n ≡ flat (put h n []) 8
+  emptied-area : partCleared (areaWith h) n ≡ flat (put h n []) 8
   emptied-area = clear-flat h 8 n (small d h good) low
 
   -- the machine's last step, where the rules come to device e: closed connections hold nothing
@@ -72,14 +71,14 @@ module _ (d : Device) (h : Held) (good : GoodAt d h) (n : ℕ) (live : liveAt (d
     xs = h n ++ p
 
     state : Record
-    state = stateOf d (countsOf h 8)
+    state = recordWith d h
 
     decided : (x : Decision) → decide (h n ++ p) ≡ x → settled x ≡ true → decide (take (taken x) (h n ++ p)) ≡ x
     decided x e s = ap (λ (y : Decision). decide (take (taken y) (h n ++ p))) (sym e) ∙ deciding .enough (h n ++ p) (ap settled e ∙ s) ∙ e
 
     by-decision : (x : Decision) → decide (h n ++ p) ≡ x
         → let s = delivered rule open? admit zero (settled x) d h n p out in
-        withIntake (stateOf d (countsOf h 8)) n (deliveredBy x d (flat h 8) n (length (h n)) p (h n ++ p) out)
+        withIntake (recordWith d h) n (deliveredBy x d (areaWith h) n (length (h n)) p (h n ++ p) out)
         ≡ outcomeOf (deliver n p out) (s .0 .0) (s .0 .1) (s .1)
     unfolding deliveredBy settled delivered outcomeOf whole rule messaged withTaken taken messageBy
     by-decision Undecided e =
@@ -91,7 +90,7 @@ module _ (d : Device) (h : Held) (good : GoodAt d h) (n : ℕ) (live : liveAt (d
     by-decision (Sound t) e =
         rw (e, decided (Sound t) e refl, emptied-counts, emptied-area, emptied-none (soundOf d n (take t (h n ++ p)) .device) (sound-kept (take t (h n ++ p))))
 
-    pub taken-told : withIntake (stateOf d (countsOf h 8)) n (takenIn d (flat h 8) n (getD (countsOf h 8) n 0) p out)
+    pub taken-told : withIntake (recordWith d h) n (takenIn d (areaWith h) n (getD (countsOf h 8) n 0) p out)
         ≡ (let s = delivered rule open? admit zero (settled (decide (h n ++ p))) d h n p out in outcomeOf (deliver n p out) (s .0 .0) (s .0 .1) (s .1))
     unfolding takenIn
     taken-told = rw (held-is, bytes-are) (by-decision (decide (h n ++ p)) refl)

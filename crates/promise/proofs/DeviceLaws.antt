@@ -5,9 +5,10 @@ use mathlib.Core.Bool.{Bool, cond, true, false, not, _&&_}
 use mathlib.Core.List.{List, map}
 use native.Mathlib.Omega.{arith}
 use lib.Dec.{ltb, eqb, leb}
-use lib.ListN.{length, getD, set, length-set, length-map, List·getD-map}
+use lib.ListN.{length, getD, length-set, length-map, List·getD-map}
 use borrow.Author.Tests.{eqb-true}
 use Rattle.laws.specs.Lists.{all, any, mask}
+use Rattle.laws.proofs.Conds.{either}
 use Rattle.octets.specs.Numbers.{Octets}
 use Rattle.frame.specs.Decide.{decide, taken}
 use Rattle.frame.specs.declared.Decision.{Decision}
@@ -20,8 +21,8 @@ use Rattle.connection.specs.Supervision.{fitsStep, closesAt, connectionTicked}
 use Rattle.connection.specs.declared.Connection.{Connection}
 use Rattle.connection.proofs.Keeps.{supervision-kept}
 use Rattle.subscription.specs.State.{lowestWaiting}
-use Rattle.device.specs.State.{freshOf, withConnections, openOf, closeOf, sweepOf, sentAt, toldAt}
-use Rattle.device.specs.Time.{stepOf, advanced, tickStep, tickOf}
+use Rattle.device.specs.State.{freshOf, openOf, closeOf, sweepOf, sentAt, toldAt}
+use Rattle.device.specs.Time.{stepOf, tickStep, tickOf}
 use Rattle.device.specs.declared.Device.{Device}
 use Rattle.device.specs.declared.Opened.{Opened}
 use Rattle.device.specs.declared.Opening.{Opening}
@@ -56,13 +57,9 @@ admit-live d n out e = go (liveAt (d .connections) n) (ltb (length out) leastOut
 
 length-open : (d : Device) → length (openOf d .device .connections) ≡ length (d .connections)
 unfolding openOf
-length-open d = go (any isNotOpen (d .connections))
-  where
-    go : (b : Bool)
-        → length (cond {A = Opened} b (record { device = withConnections d (set (d .connections) (lowestFree (d .connections)) opened); answer = opens.Number (lowestFree (d .connections)) })
-        (record { device = d; answer = opens.Full }) .device .connections) ≡ length (d .connections)
-    go true = length-set (d .connections) (lowestFree (d .connections)) opened
-    go false = refl
+length-open d =
+    either (λ (o : Opened). length (o .device .connections) ≡ length (d .connections)) (any isNotOpen (d .connections)) _ _
+    (length-set (d .connections) (lowestFree (d .connections)) opened) refl
 
 pub length-close : (d : Device) (n : ℕ) → length (closeOf d n .connections) ≡ length (d .connections)
 unfolding closeOf sweepOf
@@ -70,15 +67,13 @@ length-close d n = length-set (d .connections) n closed
 
 pub length-tick : (d : Device) (reading : ℕ) → length (tickOf d reading .device .connections) ≡ length (d .connections)
 unfolding tickStep sweepOf
-length-tick d reading = go (leb (2 ^ 31) (stepOf reading (d .reading))) (all (fitsStep (stepOf reading (d .reading))) (d .connections))
+length-tick d reading =
+    let step = stepOf reading (d .reading) in
+    either P (leb (2 ^ 31) step) _ _ refl
+    (either P (all (fitsStep step) (d .connections)) _ _ (length-map (d .connections) (connectionTicked step)) refl)
   where
-    go : (a b : Bool)
-        → length (cond {A = Ticked} a (record { device = d; answer = ticks.ClockBack })
-        (cond b (record { device = sweepOf (advanced d reading (map (connectionTicked (stepOf reading (d .reading))) (d .connections))); answer = ticks.Closed (mask (closesAt (stepOf reading (d .reading))) (d .connections)) })
-        (record { device = d; answer = ticks.Overrun })) .device .connections) ≡ length (d .connections)
-    go true b = refl
-    go false true = length-map (d .connections) (connectionTicked (stepOf reading (d .reading)))
-    go false false = refl
+    P : Ticked → Type 0
+    P t = length (t .device .connections) ≡ length (d .connections)
 
 fine-closed : (d : Device) (n : ℕ) → Fine d → Fine (closeOf d n)
 fine-closed d n f = record { obeys = rules-kept .closing d n (f .obeys); eight = length-close d n ∙ f .eight }
@@ -145,18 +140,14 @@ keeps d (asked (datagram g)) f a = go (resets (d .mechanism) g)
 closed-shape : (d : Device) (reading step m : ℕ) → tickStep d reading step .answer ≡ ticks.Closed m
     → (tickStep d reading step .device .connections ≡ map (connectionTicked step) (d .connections)) × (mask (closesAt step) (d .connections) ≡ m)
 unfolding tickStep sweepOf
-closed-shape d reading step m e = go (leb (2 ^ 31) step) (all (fitsStep step) (d .connections)) e
+closed-shape d reading step m =
+    either P (leb (2 ^ 31) step) _ _ (λ q. absurd (let z : _≡_ {A = ℕ} 0 1 = cc in omega arith))
+    (either P (all (fitsStep step) (d .connections)) _ _ (λ q. (refl, cc)) (λ q. absurd (let z : _≡_ {A = ℕ} 0 1 = cc in omega arith)))
   where
-    go : (a b : Bool)
-        → cond {A = Ticked} a (record { device = d; answer = ticks.ClockBack })
-        (cond b (record { device = sweepOf (advanced d reading (map (connectionTicked step) (d .connections))); answer = ticks.Closed (mask (closesAt step) (d .connections)) })
-        (record { device = d; answer = ticks.Overrun })) .answer ≡ ticks.Closed m
-        → (cond {A = Ticked} a (record { device = d; answer = ticks.ClockBack })
-        (cond b (record { device = sweepOf (advanced d reading (map (connectionTicked step) (d .connections))); answer = ticks.Closed (mask (closesAt step) (d .connections)) })
-        (record { device = d; answer = ticks.Overrun })) .device .connections ≡ map (connectionTicked step) (d .connections)) × (mask (closesAt step) (d .connections) ≡ m)
-    go true b e = absurd (let z : _≡_ {A = ℕ} 0 1 = cc in omega arith)
-    go false true e = (refl, cc)
-    go false false e = absurd (let z : _≡_ {A = ℕ} 0 1 = cc in omega arith)
+    P : Ticked → Type 0
+    P t =
+        t .answer ≡ ticks.Closed m
+        → (t .device .connections ≡ map (connectionTicked step) (d .connections)) × (mask (closesAt step) (d .connections) ≡ m)
 
 -- a closed connection stays closed
 ticked-closed : (step : ℕ) → connectionTicked step closed ≡ closed
@@ -194,7 +185,7 @@ close-tells d c k l = go (eqb k c) refl
 
 message-tells : (d : Device) (n : ℕ) (m out : List ℕ) (k : ℕ) → liveAt (d .connections) k ≡ true → (x : Decision)
     → let s = messageBy x d n m out in
-    liveAt (s .0 .connections) k ≡ not (cond (eqb (getD (s .1 .answer) 0 0) 3) (eqb k n) false)
+    liveAt (s .0 .connections) k ≡ not (cond (eqb (getD (s .1 .answer) 1 0) 3) (eqb k n) false)
 unfolding messageBy
 message-tells d n m out k l Undecided = l
 message-tells d n m out k l (Faulty f t) = close-tells d n k l

@@ -32,7 +32,6 @@ use Rattle.device.specs.Run.{holderAt, muteAt, isHeldByOther, isSubscribed, isO
 use Rattle.serve.specs.Serve.{ranWith, ranFirst, lastOf, responseTo, responsesOf}
 use Rattle.serve.specs.Sound.{commandsOf, keptAlive, soundOf}
 use Rattle.taking.specs.Dispatch.{notifiedOf, notifying, reminding, takenBy}
-use Rattle.endpoint.specs.Take.{}
 use Rattle.promise.specs.Rulebook.{messageBy, openBy, closeBy, takeBy, resetBy, rule}
 use Rattle.promise.specs.Rulebook as rules
 use Rattle.promise.specs.Examples.{ExamplesWorked}

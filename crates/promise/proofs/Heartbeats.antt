@@ -1,7 +1,7 @@
 -- HeartbeatSent: when a connection is due, and that the takes come to it. Assumes nothing.
 use Prim.Native.Nat.{ℕ, zero, suc, _+_, _*_, _/_, _%_, _<_, _≤_}
 use mathlib.Core.Path.{_≡_, refl, sym, ap, _∙_}
-use mathlib.Core.Logic.{⊎-elim}
+use mathlib.Core.Logic.{⊎-elim, inl, inr}
 use mathlib.Core.Bool.{Bool, true, false, cond, not, _&&_, _||_, and-false}
 use mathlib.Core.List.{List, [], _∷_}
 use native.Mathlib.Omega.{arith}
@@ -346,10 +346,8 @@ module _ (r : Record) (out : List ℕ) (turn : ReadyTake r out) where
         to = s .connection;
         sends =
             record {
-              kind = 1;
               size = length (notificationBytes s (muteAt d (s .emitter)));
-              some = omega arith;
-              answer = rw q refl;
+              answer = inl (rw q refl);
               quiet = rw q (g .0);
               due = rw q (g .1);
               others = λ k f. rw q (getD-set-other (d .connections) (s .connection) k _ closed (eqb-false k (s .connection) f));
@@ -370,10 +368,8 @@ module _ (r : Record) (out : List ℕ) (turn : ReadyTake r out) where
         to = n;
         sends =
             record {
-              kind = 2;
               size = length (keepAliveBytes (heartbeatKept (connectionAt r n)));
-              some = omega arith;
-              answer = rw q refl;
+              answer = inr (rw q refl);
               quiet = rw q (g .0);
               due = rw q (g .1);
               others = λ k h. rw q (getD-set-other (d .connections) n k _ closed (eqb-false k n h));

@@ -11,7 +11,7 @@ use Rattle.frame.proofs.Bytes.{nil-waits}
 use Rattle.area.specs.Area.{partBytes, areaBytes}
 use Rattle.device.specs.State.{freshOf}
 use Rattle.device.specs.declared.Device.{Device}
-use Rattle.stream.specs.Machine.{Call, deliver, ask, Answer, Held, none-held, step}
+use Rattle.stream.specs.Machine.{deliver, ask, Answer, Held, none-held, step}
 use Rattle.stream.specs.Promise.{Bytes}
 use Rattle.stream.specs.Lent.{partHolding, flat, countsOf}
 use Rattle.stream.proofs.Bytes.{octets-nil, octets-append}
@@ -22,8 +22,8 @@ use Rattle.endpoint.specs.State.{stateOf, freshState}
 use Rattle.endpoint.specs.Outcome.{Outcome}
 use Rattle.endpoint.specs.Calls.{clearedArea}
 use Rattle.endpoint.specs.declared.Record.{Record}
-use Rattle.promise.specs.Rulebook.{Ask, Given, rule, open?, admit, shut, Fine}
-use Rattle.promise.specs.Calls.{callOf, outcomeOf}
+use Rattle.promise.specs.Rulebook.{Given, rule, open?, admit, shut, Fine}
+use Rattle.promise.specs.Calls.{HostCall, callOf, recordWith, areaWith, outcomeOf}
 use Rattle.promise.specs.Kept.{Kept, CallsKeep}
 use Rattle.promise.proofs.OpenConnections.{GoodAt, record-obeys}
 use Rattle.promise.proofs.Deliveries.{area-sound}
@@ -45,7 +45,7 @@ octets-flat h zero f = octets-nil
 octets-flat h (suc n) f = octets-append (flat h n) (h n ++ zeros (partBytes - length (h n))) (octets-flat h n f) (octets-append (h n) (zeros (partBytes - length (h n))) (f n) (octets-zeros (partBytes - length (h n))))
 
 -- a good device with bytes held is such a record and area
-good-kept : (d : Device) (h : Held) → GoodAt d h → Kept (stateOf d (countsOf h 8)) (flat h 8)
+good-kept : (d : Device) (h : Held) → GoodAt d h → Kept (recordWith d h) (areaWith h)
 good-kept d h good =
     record {
       obeys = record-obeys d h good;
@@ -56,7 +56,7 @@ good-kept d h good =
     }
 
 -- what a call is to give keeps
-state-told : (c : Call Ask (List ℕ)) (d : Device) (h : Held) (a : Answer Given) → (outcomeOf c d h a .state ≡ stateOf d (countsOf h 8)) × (outcomeOf c d h a .area ≡ flat h 8)
+state-told : (c : HostCall) (d : Device) (h : Held) (a : Answer Given) → (outcomeOf c d h a .state ≡ recordWith d h) × (outcomeOf c d h a .area ≡ flat h 8)
 unfolding outcomeOf
 state-told (deliver n p out) d h Answer.more = (refl, refl)
 state-told (deliver n p out) d h (Answer.denied q) = (refl, refl)
@@ -65,24 +65,24 @@ state-told (ask a) d h Answer.more = (refl, refl)
 state-told (ask a) d h (Answer.denied q) = (refl, refl)
 state-told (ask a) d h (Answer.gave k o) = (refl, refl)
 
-module _ (d : Device) (h : Held) (good : GoodAt d h) (c : Call Ask (List ℕ)) (b : Bytes c) where
+module _ (d : Device) (h : Held) (good : GoodAt d h) (c : HostCall) (b : Bytes c) where
   pub next : GoodAt (step rule open? admit d h c .0 .0) (step rule open? admit d h c .0 .1)
   next = step-good rule open? admit shut Fine device-laws d h c b good
 
-  pub call-state : callOf (stateOf d (countsOf h 8)) (flat h 8) c .state ≡ stateOf (step rule open? admit d h c .0 .0) (countsOf (step rule open? admit d h c .0 .1) 8)
+  pub call-state : callOf (recordWith d h) (areaWith h) c .state ≡ recordWith (step rule open? admit d h c .0 .0) (step rule open? admit d h c .0 .1)
   call-state = ap (λ (o : Outcome). o .state) (told d h good c) ∙ state-told c (step rule open? admit d h c .0 .0) (step rule open? admit d h c .0 .1) (step rule open? admit d h c .1) .0
 
-  pub call-area : callOf (stateOf d (countsOf h 8)) (flat h 8) c .area ≡ flat (step rule open? admit d h c .0 .1) 8
+  pub call-area : callOf (recordWith d h) (areaWith h) c .area ≡ areaWith (step rule open? admit d h c .0 .1)
   call-area = ap (λ (o : Outcome). o .area) (told d h good c) ∙ state-told c (step rule open? admit d h c .0 .0) (step rule open? admit d h c .0 .1) (step rule open? admit d h c .1) .1
 
-  good-called : Kept (callOf (stateOf d (countsOf h 8)) (flat h 8) c .state) (callOf (stateOf d (countsOf h 8)) (flat h 8) c .area)
+  good-called : Kept (callOf (recordWith d h) (areaWith h) c .state) (callOf (recordWith d h) (areaWith h) c .area)
   good-called = rw (call-state, call-area) (good-kept (step rule open? admit d h c .0 .0) (step rule open? admit d h c .0 .1) next)
 
 -- a record with its counts, put together again
 pub whole-state : (r : Record) (held : List ℕ) → held ≡ r .held → stateOf (r .device) held ≡ r
 whole-state r held e = ap (stateOf (r .device)) e
 
-calling : (r : Record) (area : List ℕ) (c : Call Ask (List ℕ)) → Bytes c → Kept r area → Kept (callOf r area c .state) (callOf r area c .area)
+calling : (r : Record) (area : List ℕ) (c : HostCall) → Bytes c → Kept r area → Kept (callOf r area c .state) (callOf r area c .area)
 calling r area c b w =
     let h = heldIn r area in
     let q = good-called (r .device) h (kept-good r area w) c b in

@@ -14,12 +14,12 @@ use Rattle.frame.specs.Decide.{decide, settled}
 use Rattle.frame.proofs.Ways.{deciding, unsettled}
 use Rattle.area.specs.Area.{countObeys, heldObeys}
 use Rattle.laws.specs.Lists.{any}
+use Rattle.laws.proofs.Conds.{either}
 use Rattle.connection.specs.State.{connectionCount, closed, opened, liveAt, isNotOpen, lowestFree, isLive}
 use Rattle.connection.specs.declared.Connection.{Connection}
-use Rattle.device.specs.State.{freshOf, withConnections, openOf, closeOf, sentAt, toldAt, livesIn}
+use Rattle.device.specs.State.{freshOf, openOf, closeOf, sentAt, toldAt, livesIn}
 use Rattle.device.specs.declared.Device.{Device}
 use Rattle.device.specs.declared.Opened.{Opened}
-use Rattle.device.specs.declared.Opening.the-variants.{Number, Full}
 use Rattle.serve.specs.Sound.{soundOf}
 use Rattle.serve.proofs.Keeps.{sound-kept}
 use Rattle.device.proofs.Closures.{closure-frees}
@@ -124,13 +124,9 @@ live-still d i k l = go (eqb k i) refl
 
 pub open-still : (d : Device) (k : ℕ) → liveAt (d .connections) k ≡ true → liveAt (openOf d .device .connections) k ≡ true
 unfolding openOf
-open-still d k l = go (any isNotOpen (d .connections))
-  where
-    go : (b : Bool)
-        → liveAt (cond {A = Opened} b (record { device = withConnections d (set (d .connections) (lowestFree (d .connections)) opened); answer = Number (lowestFree (d .connections)) })
-        (record { device = d; answer = Full }) .device .connections) k ≡ true
-    go true = live-still d (lowestFree (d .connections)) k l
-    go false = l
+open-still d k l =
+    either (λ (o : Opened). liveAt (o .device .connections) k ≡ true) (any isNotOpen (d .connections)) _ _
+    (live-still d (lowestFree (d .connections)) k l) l
 
 -- a list of eight tests, by its elements
 pub lives-eight : (e : Device) → length (e .connections) ≡ 8 → livesOf (open? e) 8 ≡ livesIn e

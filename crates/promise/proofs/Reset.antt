@@ -15,15 +15,15 @@ use Rattle.mechanism.specs.declared.Mechanism.{Mechanism}
 use Rattle.mechanism.proofs.Kept.{resets-exactly}
 use Rattle.device.specs.State.{freshOf}
 use Rattle.device.specs.declared.Device.{Device}
-use Rattle.stream.specs.Machine.{Call, ask, Held, none-held, only, whole, step, glue}
+use Rattle.stream.specs.Machine.{ask, Held, none-held, only, whole, step}
 use Rattle.endpoint.specs.State.{freshState, recordObeys}
 use Rattle.numbers.specs.Refusal.{badRecord, badArea}
 use Rattle.endpoint.specs.Outcome.{Outcome, outcome, refused}
 use Rattle.reset.specs.Datagram.{restarted, datagramCall}
 use Rattle.endpoint.specs.declared.Record.{Record}
-use Rattle.promise.specs.Rulebook.{Ask, datagram, rule, open?, admit, resetBy, shut}
-use Rattle.promise.specs.Calls.{callOf}
-use Rattle.promise.specs.Stream.{runCalls, machine}
+use Rattle.promise.specs.Rulebook.{datagram, rule, open?, admit, resetBy}
+use Rattle.promise.specs.Calls.{HostCall, callOf}
+use Rattle.promise.specs.Stream.{runCalls, wholeCalls}
 use Rattle.promise.specs.Reset.{Matches, Resets, ResetByKey, nobodyAsks, RackFreeAgain}
 use Rattle.promise.proofs.OpenConnections.{fresh-shut}
 use native.Mathlib.Omega.{arith}
@@ -138,7 +138,7 @@ once reading area g a =
     let k : freshState reading .device .mechanism .armed ≡ false = ap (λ (m : Mechanism). m .armed) (disarms reading) in
     clash ⊥ (freshState reading .device .mechanism .armed) armed k
 
-anew : (r : Record) (area g : List ℕ) (cs : List (Call Ask (List ℕ))) → Resets r area g
+anew : (r : Record) (area g : List ℕ) (cs : List HostCall) → Resets r area g
     → runCalls r area (ask (datagram g) ∷ cs)
     ≡ (runCalls (freshState (r .device .reading)) (zeros areaBytes) cs .0, restarted r ∷ runCalls (freshState (r .device .reading)) (zeros areaBytes) cs .1)
 unfolding runCalls callOf restarted
@@ -186,8 +186,8 @@ lock-holder d k at l h e s = go (isOther (getD (d .holders) at 0) k) refl
         ap (λ (x : Ran). getD (x .device .holders) at 0) (sym (lock-done d k at e (isOther (getD (d .holders) at 0) k) refl q (k + 1) (rw (lt-ltb k 8 l)) (answerWith []) refl))
         ∙ getD-set-same (d .holders) at (k + 1) 0 h
 
-first-asks : (r : Record) (area g : List ℕ) (cs : List (Call Ask (List ℕ))) → Resets r area g → AllBytes cs → (k at : ℕ) → at < 8
-    → nobodyAsks at (glue shut none-held (machine (freshOf (r .device .reading)) none-held cs .1) .0) ≡ true
+first-asks : (r : Record) (area g : List ℕ) (cs : List HostCall) → Resets r area g → AllBytes cs → (k at : ℕ) → at < 8
+    → nobodyAsks at (wholeCalls (freshOf (r .device .reading)) none-held cs) ≡ true
     → lockStatus (runCalls r area (ask (datagram g) ∷ cs) .0 .0 .device) k at ≡ 0
 first-asks r area g cs e b k at h a =
     free-locks _ k at h

@@ -39,9 +39,8 @@ use Rattle.device.specs.declared.Ticking.{Ticking}
 use Rattle.device.specs.declared.Ticking.the-variants as ticks
 use Rattle.device.specs.declared.Ran.{Ran}
 use Rattle.serve.specs.Sound.{Ruled, soundOf}
-use Rattle.stream.specs.Machine.{Call, deliver, ask, handed, asked, Held, glue, rules}
+use Rattle.stream.specs.Machine.{deliver, ask, handed, asked, Held, rules}
 use Rattle.stream.specs.Promise.{AllBytes}
-use Rattle.stream.specs.Lent.{flat, countsOf}
 use Rattle.endpoint.specs.State.{stateOf, recordObeys, closedState}
 use Rattle.endpoint.specs.Outcome.{Outcome, outcome}
 use Rattle.endpoint.specs.Calls.{openedBy, openCall, closeCall, tickedBy, tickCall}
@@ -53,9 +52,9 @@ use Rattle.endpoint.specs.Take.{takeCall, withDispatch}
 use Rattle.reset.specs.Datagram.{datagramCall}
 use Rattle.endpoint.specs.declared.Record.{Record}
 use Rattle.promise.specs.Rulebook as ruling
-use Rattle.promise.specs.Rulebook.{Ask, opening, closing, ticking, taking, datagram, Asked, Given, messageBy, openBy, closeBy, resetBy, rule, shut}
-use Rattle.promise.specs.Calls.{callOf}
-use Rattle.promise.specs.Stream.{runCalls, machine, GoodState}
+use Rattle.promise.specs.Rulebook.{opening, closing, ticking, taking, datagram, Asked, Given, messageBy, openBy, closeBy, resetBy, rule}
+use Rattle.promise.specs.Calls.{HostCall, callOf, recordWith, areaWith}
+use Rattle.promise.specs.Stream.{runCalls, GoodState, wholeCalls}
 use Rattle.promise.specs.ResetKey.{isArming, keyedBy, keyedWith, keyedOver, keyedIn, keyedMessage, latest, latestOver, LatestKeyCounts, AlikeButKey, Seen, seen, isNoReset, noReset, KeyStaysInside}
 use Rattle.promise.proofs.Mechanism.{arming, close-frame, open-frame, tick-frame, run-frame, sound-frame}
 use Rattle.promise.proofs.Ways.{take-ways}
@@ -106,12 +105,12 @@ unfolding rules latestOver
 ruled-over d [] = refl
 ruled-over d (w ∷ ws) = ruled-over (rule d w .0) ws ∙ ap (λ (k : Mechanism). latestOver k ws) (whole d w)
 
-calls-key : (d : Device) (h : Held) (cs : List (Call Ask (List ℕ))) → GoodState d h → AllBytes cs
-    → runCalls (stateOf d (countsOf h 8)) (flat h 8) cs .0 .0 .device .mechanism ≡ latestOver (d .mechanism) (glue shut h (machine d h cs .1) .0)
+calls-key : (d : Device) (h : Held) (cs : List HostCall) → GoodState d h → AllBytes cs
+    → runCalls (recordWith d h) (areaWith h) cs .0 .0 .device .mechanism ≡ latestOver (d .mechanism) (wholeCalls d h cs)
 calls-key d h cs good b =
     ap (λ (x : (Record × List ℕ) × List Outcome). x .0 .0 .device .mechanism) (stream-theorem .real d h cs good b)
     ∙ sym (ap (λ (x : Device × List Given). x .0 .mechanism) (stream-theorem .whole d h cs good b .same))
-    ∙ ruled-over d (glue shut h (machine d h cs .1) .0)
+    ∙ ruled-over d (wholeCalls d h cs)
 
 pub latest-key-counts : LatestKeyCounts
 latest-key-counts = record { arming = arming; command = command; whole = whole; calls = calls-key }
@@ -273,7 +272,7 @@ module _ (d : Device) (held : List ℕ) (a b : Mechanism) (w : Alike a b) where
       (follow-cond (areaSound held area) _ _ _ _ (same-as (0 ∷ 0 ∷ []) area []) (same-as (2 ∷ []) area []))
       (same-as (1 ∷ []) area []))
 
-  call-follows : (area : List ℕ) (c : Call Ask (List ℕ)) → isNoReset (holding d held a) (holding d held b) c ≡ true → Follows (callOf (holding d held a) area c) (callOf (holding d held b) area c)
+  call-follows : (area : List ℕ) (c : HostCall) → isNoReset (holding d held a) (holding d held b) c ≡ true → Follows (callOf (holding d held a) area c) (callOf (holding d held b) area c)
   unfolding callOf isNoReset
   call-follows area (deliver n piece out) e = deliver-follows area n piece out
   call-follows area (ask opening) e = within (λ (l : List ℕ). []) open-follows area
@@ -289,13 +288,13 @@ alike-parts r s w = record { armed = w .armed; same = ap (λ (x : Record). x .de
 as-holding : (r s : Record) → AlikeButKey r s → holding (r .device) (r .held) (s .device .mechanism) ≡ s
 as-holding r s w = ap (holding (r .device) (r .held)) (alike-parts r s w .same) ∙ sym (w .alike)
 
-call-inside : (r s : Record) (area : List ℕ) (c : Call Ask (List ℕ)) → AlikeButKey r s → isNoReset r s c ≡ true → Follows (callOf r area c) (callOf s area c)
+call-inside : (r s : Record) (area : List ℕ) (c : HostCall) → AlikeButKey r s → isNoReset r s c ≡ true → Follows (callOf r area c) (callOf s area c)
 call-inside r s area c w e =
     let q = as-holding r s w in
     let f : isNoReset r (holding (r .device) (r .held) (s .device .mechanism)) c ≡ true = ap (λ (x : Record). isNoReset r x c) q ∙ e in
     rw q at (call-follows (r .device) (r .held) (r .device .mechanism) (s .device .mechanism) (alike-parts r s w) area c f)
 
-inside : (cs : List (Call Ask (List ℕ))) (r s : Record) (x y : List ℕ) → x ≡ y → AlikeButKey r s → noReset r x s y cs ≡ true
+inside : (cs : List HostCall) (r s : Record) (x y : List ℕ) → x ≡ y → AlikeButKey r s → noReset r x s y cs ≡ true
     → (map seen (runCalls r x cs .1) ≡ map seen (runCalls s y cs .1)) × AlikeButKey (runCalls r x cs .0 .0) (runCalls s y cs .0 .0)
 unfolding runCalls noReset
 inside [] r s x y q w e = (refl, w)

@@ -12,19 +12,19 @@ use Rattle.octets.proofs.Scans.{length-zeros}
 use Rattle.frame.specs.Decide.{decide, settled}
 use Rattle.connection.specs.State.{liveAt}
 use Rattle.device.specs.declared.Device.{Device}
-use Rattle.stream.specs.Machine.{Call, deliver, ask, Held, run, step}
+use Rattle.stream.specs.Machine.{deliver, ask, Held, run, step}
 use Rattle.stream.specs.Promise.{AllBytes}
-use Rattle.stream.specs.Lent.{flat, countsOf}
+use Rattle.stream.specs.Lent.{countsOf}
 use Rattle.stream.specs.Cut.{comesTo}
 use Rattle.stream.proofs.Stream.{stream}
 use Rattle.stream.proofs.Cut.{recut}
 use Rattle.stream.proofs.Swap.{swap}
-use Rattle.endpoint.specs.State.{stateOf, freshState}
+use Rattle.endpoint.specs.State.{freshState}
 use Rattle.endpoint.specs.Outcome.{Outcome}
 use Rattle.replies.specs.Bytes.{leastOutput}
 use Rattle.endpoint.specs.declared.Record.{Record}
-use Rattle.promise.specs.Rulebook.{Ask, rule, open?, admit, shut, Fine}
-use Rattle.promise.specs.Calls.{callOf}
+use Rattle.promise.specs.Rulebook.{rule, open?, admit, shut, Fine}
+use Rattle.promise.specs.Calls.{HostCall, callOf, recordWith, areaWith}
 use Rattle.promise.specs.Kept.{Kept}
 use Rattle.promise.specs.Stream.{runCalls, gives, machine, DeviceWithBytes, StreamTheorem, CuttingDoesNotMatter, NotTo, MixingDoesNotMatter}
 use Rattle.promise.proofs.OpenConnections.{GoodAt}
@@ -35,19 +35,21 @@ use Rattle.promise.proofs.Kept.{next, call-state, call-area, whole-stat
 
 -- ---- the run
 
-real : (d : Device) (h : Held) (cs : List (Call Ask (List ℕ))) → GoodAt d h → AllBytes cs
-    → runCalls (stateOf d (countsOf h 8)) (flat h 8) cs
-    ≡ ((stateOf (machine d h cs .0 .0) (countsOf (machine d h cs .0 .1) 8), flat (machine d h cs .0 .1) 8), gives d h cs)
+real : (d : Device) (h : Held) (cs : List HostCall) → GoodAt d h → AllBytes cs
+    → runCalls (recordWith d h) (areaWith h) cs
+    ≡ ((recordWith (machine d h cs .0 .0) (machine d h cs .0 .1), areaWith (machine d h cs .0 .1)), gives d h cs)
 unfolding runCalls gives run AllBytes
 real d h [] good b = refl
 real d h (c ∷ cs) good b =
     let s = step rule open? admit d h c in
     let n = next d h good c (b .0) in
     let ih = real (s .0 .0) (s .0 .1) cs n (b .1) in
-    let o = callOf (stateOf d (countsOf h 8)) (flat h 8) c in
-    let z : runCalls (o .state) (o .area) cs ≡ ((stateOf (machine (s .0 .0) (s .0 .1) cs .0 .0) (countsOf (machine (s .0 .0) (s .0 .1) cs .0 .1) 8), flat (machine (s .0 .0) (s .0 .1) cs .0 .1) 8), gives (s .0 .0) (s .0 .1) cs) =
+    let o = callOf (recordWith d h) (areaWith h) c in
+    let e = machine (s .0 .0) (s .0 .1) cs .0 in
+    let z : runCalls (o .state) (o .area) cs ≡ ((recordWith (e .0) (e .1), areaWith (e .1)), gives (s .0 .0) (s .0 .1) cs) =
     rw (call-state d h good c (b .0), call-area d h good c (b .0)) ih in
-    ap (λ (t : (Record × List ℕ) × List Outcome). (t .0, o ∷ t .1)) z ∙ ap (λ (q : Outcome). ((stateOf (machine (s .0 .0) (s .0 .1) cs .0 .0) (countsOf (machine (s .0 .0) (s .0 .1) cs .0 .1) 8), flat (machine (s .0 .0) (s .0 .1) cs .0 .1) 8), q ∷ gives (s .0 .0) (s .0 .1) cs)) (told d h good c)
+    ap (λ (t : (Record × List ℕ) × List Outcome). (t .0, o ∷ t .1)) z
+    ∙ ap (λ (q : Outcome). ((recordWith (e .0) (e .1), areaWith (e .1)), q ∷ gives (s .0 .0) (s .0 .1) cs)) (told d h good c)
 
 any : (r : Record) (area : List ℕ) → Kept r area → DeviceWithBytes r area
 any r area w =
@@ -96,7 +98,7 @@ still-admits d e c x a l = rw l (go (liveAt (d .connections) c) (ltb (length x) 
 pub mixing : MixingDoesNotMatter
 mixing = record { swap = swaps }
   where
-    swaps : (d : Device) (h : Held) (c : ℕ) (p room : List ℕ) (x : Call Ask (List ℕ)) → admit d c room ≡ 0 → settled (decide (h c ++ p)) ≡ false
+    swaps : (d : Device) (h : Held) (c : ℕ) (p room : List ℕ) (x : HostCall) → admit d c room ≡ 0 → settled (decide (h c ++ p)) ≡ false
         → NotTo c x → open? (step rule open? admit d h x .0 .0) c ≡ true
         → comesTo rule open? admit d h (deliver c p room ∷ x ∷ []) ≡ comesTo rule open? admit d h (x ∷ deliver c p room ∷ [])
     swaps d h c p room (deliver n q y) a u o z =

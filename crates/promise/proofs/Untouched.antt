@@ -15,7 +15,6 @@ use Rattle.frame.specs.Decide.{decide, settled}
 use Rattle.frame.proofs.Ways.{unsettled}
 use Rattle.frame.specs.declared.Decision.{Decision}
 use Rattle.frame.specs.declared.Decision.the-variants.{Undecided, Faulty, Sound}
-use Rattle.mechanism.specs.Arguments.{armedBy}
 use Rattle.mechanism.specs.Datagram.{resets}
 use Rattle.area.specs.Area.{areaSound, undecidedOf}
 use Rattle.connection.specs.State.{closed, opened, liveAt, isNotOpen, lowestDue}
@@ -23,17 +22,17 @@ use Rattle.connection.specs.Supervision.{heardOf, sentOf, beatingOf}
 use Rattle.connection.specs.declared.Connection.{Connection}
 use Rattle.objects.specs.Answers.{failedOf}
 use Rattle.holders.specs.Holders.{ownerOf, isOther}
-use Rattle.subscription.specs.State.{free, twinAt, lowestUnused, lowestWaiting}
-use Rattle.objects.specs.Methods.{lockMethod, unlockMethod, setMethod, addMethod, removeMethod, resetKeyMethod, placeOf, isObject, isLocking, hasMethod}
-use Rattle.objects.specs.Tests.{isForbidden, isMalformed, subscriptionFrom, isEmitterBad, isValueBad}
+use Rattle.subscription.specs.State.{free, lowestWaiting}
+use Rattle.objects.specs.Methods.{lockMethod, setMethod, placeOf, isObject, isLocking, hasMethod}
+use Rattle.objects.specs.Tests.{isForbidden, isMalformed}
 use Rattle.serve.specs.Serve.{ranWith, ranFirst, lastOf}
 use Rattle.serve.specs.Sound.{Ruled, commandsOf, keptAlive, soundOf}
 use Rattle.frame.specs.Limits.{headerEnd, notification, keepAlive}
 use Rattle.frame.specs.Header.{pduType, messageCount}
 use Rattle.frame.specs.Entry.{entrySize}
 use Rattle.fields.specs.Fields.{heartbeatOf}
-use Rattle.device.specs.State.{sweepOf, openOf, closeOf, atConnection, withSubscriptions, withHolders, withMechanism, heardAt, sentAt, toldAt, beatingAt}
-use Rattle.device.specs.Run.{holderAt, muteAt, isHeldByOther, isOutOfTurn, isFull, statusOf, mutedOf, doneOf, answerOf, unchanged, ranBy, runOf}
+use Rattle.device.specs.State.{sweepOf, openOf, closeOf, atConnection, withHolders, heardAt, sentAt, toldAt, beatingAt}
+use Rattle.device.specs.Run.{holderAt, isHeldByOther, statusOf, doneOf, runOf}
 use Rattle.device.specs.declared.Opened.{Opened}
 use Rattle.device.specs.declared.Opening.{Opening}
 use Rattle.device.specs.declared.Opening.the-variants as opens
@@ -53,7 +52,7 @@ use Rattle.reset.specs.Datagram.{datagramCall}
 use Rattle.endpoint.specs.declared.Record.{Record}
 use Rattle.promise.specs.Technician.{lockStatus}
 use Rattle.promise.proofs.DeviceLaws.{length-close}
-use Rattle.promise.proofs.Ways.{delivery-ways, taking-ways}
+use Rattle.promise.proofs.Ways.{delivery-ways, taking-ways, done-ways, run-ways}
 
 -- ---- what a connection holds while it stays
 pub lock-kept : (n at : ℕ) (d e : Device) → Stays n d e → getD (d .holders) at 0 ≡ n + 1 → getD (e .holders) at 0 ≡ n + 1
@@ -206,41 +205,26 @@ module _ (n : ℕ) where
 
     -- a command of k
     done-same : (d : Device) (target m : ℕ) (part : List ℕ) → isHeldByOther d k target m ≡ false → Same n d (doneOf d k target m part)
-    unfolding doneOf mutedOf isHeldByOther isLocking
+    unfolding isHeldByOther isLocking
     done-same d target m part h =
-        go (eqb m lockMethod) (eqb m unlockMethod) h
+        done-ways (Same n d) d k target m part (λ e. held (ownerOf k) (rw e at h)) (λ e. held 0 (free (eqb m lockMethod) (eqb m setMethod) (rw e at h)))
+        (λ x a b c. same-of d x a (ap length b) (ap (λ (l : List Connection). getD l n closed) b) (λ at q. ap (λ (l : List ℕ). getD l at 0) c ∙ q))
       where
-        P : Device → Type 0
-        P x = Same n d x
-
         held : (v : ℕ) → isOther (holderAt d target) k ≡ false → Same n d (withHolders d (set (d .holders) (placeOf target) v))
         held v o = same-of d _ refl refl refl (λ at q. elsewhere d at target v o q)
 
-        go : (a b : Bool) → (((a || b) || eqb m setMethod) && isOther (holderAt d target) k) ≡ false
-            → Same n d (cond a (withHolders d (set (d .holders) (placeOf target) (ownerOf k)))
-            (cond b (withHolders d (set (d .holders) (placeOf target) 0))
-            (cond (eqb m setMethod) (mutedOf d target (getD part 0 0))
-            (cond (eqb m addMethod) (withSubscriptions d (set (d .subscriptions) (lowestUnused (d .subscriptions)) (subscriptionFrom k part)))
-            (cond (eqb m removeMethod) (withSubscriptions d (set (d .subscriptions) (twinAt (subscriptionFrom k part) (d .subscriptions)) free))
-            (cond (eqb m resetKeyMethod) (withMechanism d (armedBy part))
-            d))))))
-        go true b h = held (ownerOf k) h
-        go false true h = held 0 h
-        go false false h =
-            either P (eqb m setMethod) _ _ (either P (eqb (muteAt d target) (getD part 0 0)) _ _ (same-refl d) (same-of d _ refl refl refl (λ at q. q)))
-            (either P (eqb m addMethod) _ _ (same-of d _ refl refl refl (λ at q. q))
-            (either P (eqb m removeMethod) _ _ (same-of d _ refl refl refl (λ at q. q))
-            (either P (eqb m resetKeyMethod) _ _ (same-of d _ refl refl refl (λ at q. q)) (same-refl d))))
+        free : (a c : Bool) → (((a || true) || c) && isOther (holderAt d target) k) ≡ false → isOther (holderAt d target) k ≡ false
+        free true c q = q
+        free false c q = q
 
     run-same : (d : Device) (target m count : ℕ) (part : List ℕ) → Same n d (runOf d k target m count part .device)
-    unfolding runOf ranBy statusOf
-    run-same d target m count part = go (statusOf d k target m count part) refl (eqb (statusOf d k target m count part) 0) refl
-      where
-        go : (z : ℕ) → statusOf d k target m count part ≡ z → (b : Bool) → eqb (statusOf d k target m count part) 0 ≡ b
-            → Same n d (cond {A = Ran} b (record { device = doneOf d k target m part; answer = answerOf d target m }) (unchanged d (failedOf z)) .device)
-        go z q true b = done-same d target m part (not-held (not (isObject target)) (not (hasMethod target m)) (isForbidden target m) (isMalformed m count part) (isHeldByOther d k target m)
-            (cond (isEmitterBad m part) 6 (cond (isValueBad m part) 7 (cond (isOutOfTurn d k target m part) 9 (cond (isFull d m) 10 0)))) b)
-        go z q false b = same-refl d
+    unfolding statusOf
+    run-same d target m count part =
+        run-ways (Same n d) d k target m count part
+        (λ q.
+        done-same d target m part
+        (not-held (not (isObject target)) (not (hasMethod target m)) (isForbidden target m) (isMalformed m count part) (isHeldByOther d k target m) _ (eq-eqb _ 0 q)))
+        (same-refl d)
 
     last-same : (count : ℕ) (d : Device) (kind : ℕ) (t : List ℕ) → Same n d (lastOf count d k kind t)
     unfolding lastOf ranFirst ranWith

@@ -1,11 +1,13 @@
 -- The endpoint's calls as one function, and what each is to give.
 use Prim.Native.Nat.{ℕ}
 use mathlib.Core.List.{List, [], _∷_}
-use lib.ListN.{length}
+use lib.ListN.{length, set}
 use Rattle.connection.specs.State.{connectionCount}
 use Rattle.device.specs.declared.Device.{Device}
 use Rattle.stream.specs.Machine.{Call, deliver, ask, Answer, more, denied, gave, Held}
 use Rattle.stream.specs.Lent.{flat, countsOf}
+use Rattle.answers.specs.Numbers.{deliveryNumbers}
+use Rattle.answers.specs.declared.Delivery.the-variants as deliveries
 use Rattle.endpoint.specs.State.{stateOf}
 use Rattle.endpoint.specs.Outcome.{Outcome, outcome}
 use Rattle.endpoint.specs.Calls.{openCall, closeCall, tickCall}
@@ -28,10 +30,9 @@ callOf r area (ask (ticking reading)) = tickCall r area reading
 callOf r area (ask (taking out)) = outcome (takeCall r out .answer) (takeCall r out .state) area (takeCall r out .output)
 callOf r area (ask (datagram g)) = datagramCall r area g
 
--- the numbers of a delivery that decided: 0, the kind, the bytes taken, the value
+-- the answer to a message of which k bytes are this piece's: those are the bytes taken
 unfoldable pub withTaken : ℕ → List ℕ → List ℕ
-withTaken k [] = []
-withTaken k (x ∷ rest) = 0 ∷ x ∷ k ∷ rest
+withTaken k answer = set answer 2 k
 
 -- the record and the area of device d with h held
 abbrev pub recordWith : Device → Held → Record
@@ -42,7 +43,7 @@ areaWith h = flat h connectionCount
 
 -- what a call is to give, where the machine over pieces comes to device d with h held and that answer
 unfoldable pub outcomeOf : HostCall → Device → Held → Answer Given → Outcome
-outcomeOf (deliver n piece out) d h more = outcome (0 ∷ 1 ∷ length piece ∷ []) (recordWith d h) (areaWith h) out
+outcomeOf (deliver n piece out) d h more = outcome (deliveryNumbers (deliveries.More (length piece))) (recordWith d h) (areaWith h) out
 outcomeOf (deliver n piece out) d h (denied q) = outcome (q ∷ []) (recordWith d h) (areaWith h) out
 outcomeOf (deliver n piece out) d h (gave k o) = outcome (withTaken k (o .answer)) (recordWith d h) (areaWith h) (o .output)
 outcomeOf (ask a) d h more = outcome [] (recordWith d h) (areaWith h) []

@@ -3,13 +3,18 @@
 use Prim.Native.Nat.{ℕ}
 use mathlib.Core.Path.{_≡_}
 use mathlib.Core.Bool.{true, false}
-use mathlib.Core.List.{List, [], _∷_}
+use mathlib.Core.List.{List}
 use lib.Dec.{eqb}
 use lib.ListN.{getD, take, drop}
 use Rattle.octets.specs.Zeros.{zeros}
 use Rattle.area.specs.Area.{partBytes, partAt}
 use Rattle.connection.specs.State.{closed, opened, liveAt}
 use Rattle.device.specs.Closure.{locksOf, subscriptionsOf, noLocks, noEntries, Gone, Stays}
+use Rattle.answers.specs.Numbers.{openingNumbers, closingNumbers, tickingNumbers, deliveryNumbers}
+use Rattle.answers.specs.declared.Opening.the-variants as openings
+use Rattle.answers.specs.declared.Closing.the-variants as closings
+use Rattle.answers.specs.declared.Ticking.the-variants as tickings
+use Rattle.answers.specs.declared.Delivery.the-variants as deliveries
 use Rattle.endpoint.specs.Outcome.{Outcome}
 use Rattle.endpoint.specs.Calls.{openCall, closeCall, tickCall}
 use Rattle.endpoint.specs.Deliver.{heldAt, deliverCall}
@@ -57,20 +62,21 @@ pub record New (n : ℕ) (r r' : Record) (area : List ℕ) : Type 0 where
 -- the tick answers by this mask
 pub record TickTold (r : Record) (area : List ℕ) (reading mask : ℕ) : Type 0 where
   pub kept : Kept r area
-  pub answer : tickCall r area reading .answer ≡ 0 ∷ mask ∷ []
+  pub answer : tickCall r area reading .answer ≡ tickingNumbers (tickings.Closed mask)
 
 -- the opening answers by this number
 pub record OpeningTold (r : Record) (area : List ℕ) (n : ℕ) : Type 0 where
   pub kept : Kept r area
-  pub answer : openCall r .answer ≡ 0 ∷ n ∷ []
+  pub answer : openCall r .answer ≡ openingNumbers (openings.Number n)
 
 pub record ClosureLeavesNothing : Type 0 where
   -- the host's close
-  pub byHost : (r : Record) (area : List ℕ) (n : ℕ) → Kept r area → closeCall r area n .answer ≡ 0 ∷ []
+  pub byHost : (r : Record) (area : List ℕ) (n : ℕ) → Kept r area → closeCall r area n .answer ≡ closingNumbers closings.Done
       → Closed n r area (closeCall r area n)
   -- a fault in the bytes delivered
   pub byFault : (r : Record) (area : List ℕ) (n : ℕ) (piece out : List ℕ) (taken fault : ℕ) → Kept r area
-      → deliverCall r area n piece out .answer ≡ 0 ∷ 3 ∷ taken ∷ fault ∷ [] → Closed n r area (deliverCall r area n piece out)
+      → deliverCall r area n piece out .answer ≡ deliveryNumbers (deliveries.Closed taken fault)
+      → Closed n r area (deliverCall r area n piece out)
   -- a tick: whoever's bit is set, and whoever's is not
   pub byTick : (r : Record) (area : List ℕ) (reading mask : ℕ) → TickTold r area reading mask → (n : ℕ) → bitOf mask n ≡ true
       → Left n r (tickCall r area reading .state) (tickCall r area reading .area)

@@ -2,7 +2,7 @@
 use Prim.Native.Nat.{ℕ, _-_, _^_}
 use mathlib.Core.Path.{_≡_}
 use mathlib.Core.List.{List, [], _∷_, _++_, map}
-use lib.ListN.{getD, take}
+use lib.ListN.{length, getD, take}
 use Rattle.octets.specs.Zeros.{zeros}
 use Rattle.heartbeat.specs.Beat.{secondsForm, millisecondsForm}
 use Rattle.reader.specs.Examples.{Example, keepAlive2s, keepAlive2000ms, lock4097, reply7, muted4097, examples, worked}
@@ -12,7 +12,11 @@ use Rattle.device.specs.State.{freshOf, openOf}
 use Rattle.device.specs.Time.{stepOf}
 use Rattle.device.specs.declared.Device.{Device}
 use Rattle.stream.specs.Machine.{handed, asked}
-use Rattle.numbers.specs.Refusal.{clockBack}
+use Rattle.numbers.specs.Status.{heldByOther, carriedOut}
+use Rattle.answers.specs.Numbers.{tickingNumbers, deliveryNumbers, takingNumbers}
+use Rattle.answers.specs.declared.Ticking.the-variants as tickings
+use Rattle.answers.specs.declared.Delivery.the-variants as deliveries
+use Rattle.answers.specs.declared.Taking.the-variants as takings
 use Rattle.replies.specs.Bytes.{leastOutput}
 use Rattle.promise.specs.Rulebook.{ticking, taking, Given, rule}
 
@@ -28,15 +32,16 @@ row gives wanted = record { gives = gives; wanted = wanted }
 abbrev pub twoOpen : ℕ → Device
 twoOpen reading = openOf (openOf (freshOf reading) .device) .device
 
--- the device after a message of connection n, and its answer and reply; an output of no length keeps no other bytes
+-- the device after a message of connection n, and what is answered; an output of no length keeps no other bytes
 abbrev pub afterMessage : Device → ℕ → List ℕ → Device
 afterMessage d n m = rule d (handed n m []) .0
 
 abbrev pub told : Given → List ℕ
 told o = o .answer ++ o .output
 
-abbrev pub replyTo : Device → ℕ → List ℕ → List ℕ
-replyTo d n m = told (rule d (handed n m []) .1)
+-- a message of connection n, and the reply that it is to get
+abbrev pub replyRow : Device → ℕ → List ℕ → List ℕ → Row
+replyRow d n m reply = row (told (rule d (handed n m []) .1)) (deliveryNumbers (deliveries.Message (length m) (length reply)) ++ reply)
 
 -- connection 0's form, heartbeat and silence
 abbrev pub supervisionOf : Device → List ℕ
@@ -88,24 +93,24 @@ readRow e = row (exampleNumbers (worked e)) (exampleNumbers e)
 -- "Keep-alive 2 s", "2,000 ms": the answer is the same bytes, and the heartbeat is kept in its form
 abbrev pub keepAliveRows : List Row
 keepAliveRows =
-    row (replyTo (twoOpen 0) 0 keepAlive2s) (2 ∷ 12 ∷ keepAlive2s)
+    replyRow (twoOpen 0) 0 keepAlive2s keepAlive2s
     ∷ row (supervisionOf (afterMessage (twoOpen 0) 0 keepAlive2s)) (secondsForm ∷ 2000 ∷ 0 ∷ [])
-    ∷ row (replyTo (twoOpen 0) 0 keepAlive2000ms) (2 ∷ 14 ∷ keepAlive2000ms)
+    ∷ replyRow (twoOpen 0) 0 keepAlive2000ms keepAlive2000ms
     ∷ row (supervisionOf (afterMessage (twoOpen 0) 0 keepAlive2000ms)) (millisecondsForm ∷ 2000 ∷ 0 ∷ [])
     ∷ []
 
 -- "Lock 4097, handle 7", "Reply", "last two bytes 03 00 if another holds it"
 abbrev pub lockRows : List Row
 lockRows =
-    row (replyTo (twoOpen 0) 0 lock4097) (2 ∷ 20 ∷ reply7 0)
-    ∷ row (replyTo (afterMessage (twoOpen 0) 1 lock4097) 0 lock4097) (2 ∷ 20 ∷ reply7 3)
+    replyRow (twoOpen 0) 0 lock4097 (reply7 carriedOut)
+    ∷ replyRow (afterMessage (twoOpen 0) 1 lock4097) 0 lock4097 (reply7 heldByOther)
     ∷ []
 
--- "4097 muted, subscriber object 9 method 3.1, context 01 02 03 04": 0, a notification, connection 0, its length, its bytes
+-- "4097 muted, subscriber object 9 method 3.1, context 01 02 03 04"
 abbrev pub notificationRows : List Row
 notificationRows =
-    row (takenFrom subscribed 0) (0 ∷ 0 ∷ [])
-    ∷ row (takenFrom waiting 41) (0 ∷ 1 ∷ 0 ∷ 41 ∷ muted4097)
+    row (takenFrom subscribed 0) (takingNumbers takings.Nothing)
+    ∷ row (takenFrom waiting 41) (takingNumbers (takings.Notification 0 41) ++ muted4097)
     ∷ []
 
 -- "Class {1, 3}, version 1"
@@ -117,8 +122,8 @@ abbrev pub stepRows : List Row
 stepRows =
     row (stepOf 200 4294967000 ∷ []) (496 ∷ [])
     ∷ row (supervisionOf (afterTick (afterMessage (twoOpen 4294967000) 0 keepAlive2s) 200)) (secondsForm ∷ 2000 ∷ 496 ∷ [])
-    ∷ row (tickAnswer (twoOpen 0) (2 ^ 31 - 1)) (0 ∷ 0 ∷ [])
-    ∷ row (tickAnswer (twoOpen 0) (2 ^ 31)) (clockBack ∷ [])
+    ∷ row (tickAnswer (twoOpen 0) (2 ^ 31 - 1)) (tickingNumbers (tickings.Closed 0))
+    ∷ row (tickAnswer (twoOpen 0) (2 ^ 31)) (tickingNumbers tickings.ClockBack)
     ∷ []
 
 abbrev pub table : List Row

@@ -4,6 +4,7 @@
 -- message and names its connection".
 use Prim.Native.Nat.{ℕ, zero, suc, _+_, _<_, _≤_}
 use mathlib.Core.Path.{_≡_}
+use mathlib.Core.Logic.{_⊎_}
 use mathlib.Core.Bool.{Bool, true, false, cond, _&&_, _||_}
 use mathlib.Core.List.{List, [], _∷_, _++_}
 use lib.Dec.{eqb}
@@ -21,6 +22,8 @@ use Rattle.connection.specs.State.{connectionCount, closed, liveAt, isDue, lowe
 use Rattle.subscription.specs.State.{entryCount, isWaiting}
 use Rattle.device.specs.declared.Device.{Device}
 use Rattle.replies.specs.Bytes.{keepAliveBytes, leastOutput}
+use Rattle.answers.specs.Numbers.{takingNumbers}
+use Rattle.answers.specs.declared.Taking.the-variants as takings
 use Rattle.endpoint.specs.State.{recordObeys}
 use Rattle.device.specs.Time.{stepOf}
 use Rattle.endpoint.specs.Calls.{tickCall}
@@ -84,17 +87,15 @@ pub record Reminds (r : Record) (out : List ℕ) (n H : ℕ) : Type 0 where
   pub heartbeat : Heartbeat
   pub form : formOf heartbeat ≡ getD (r .device .connections) n closed .form
   pub beat : beatOf heartbeat ≡ H
-  pub answer : takeCall r out .answer ≡ 0 ∷ 2 ∷ n ∷ length (keepAliveBytes heartbeat) ∷ []
+  pub answer : takeCall r out .answer ≡ takingNumbers (takings.KeepAlive n (length (keepAliveBytes heartbeat)))
   pub output : takeCall r out .output ≡ atFront (keepAliveBytes heartbeat) out
   pub after : Paced (takeCall r out .state .device) n H 0 false
 
--- the take sends connection n something, a notification (1) or a keep-alive (2), clears its quiet and due, and leaves the others as
--- they were
+-- the take sends connection n something, a notification or a keep-alive, clears its quiet and due, and leaves the others as they were
 pub record SendsTo (r : Record) (out : List ℕ) (n : ℕ) : Type 0 where
-  pub kind : ℕ
   pub size : ℕ
-  pub some : 0 < kind
-  pub answer : takeCall r out .answer ≡ 0 ∷ kind ∷ n ∷ size ∷ []
+  pub answer : (takeCall r out .answer ≡ takingNumbers (takings.Notification n size))
+      ⊎ (takeCall r out .answer ≡ takingNumbers (takings.KeepAlive n size))
   pub quiet : getD (takeCall r out .state .device .connections) n closed .quiet ≡ 0
   pub due : getD (takeCall r out .state .device .connections) n closed .due ≡ false
   pub others : (k : ℕ) → eqb k n ≡ false

@@ -8,6 +8,7 @@ use lib.ListN.{length}
 use Rattle.octets.specs.Numbers.{Octets}
 use Rattle.octets.specs.Zeros.{zeros}
 use Rattle.area.specs.Area.{areaBytes, areaSound}
+use Rattle.connection.specs.State.{connectionCount}
 use Rattle.stream.specs.Promise.{Bytes}
 use Rattle.endpoint.specs.State.{freshState, recordObeys}
 use Rattle.endpoint.specs.Calls.{clearedArea}
@@ -23,8 +24,8 @@ pub record Accepted (r : Record) (area : List ℕ) : Type 0 where
 pub record Kept (r : Record) (area : List ℕ) : Type 0 where
   pub obeys : recordObeys r ≡ true
   pub sound : areaSound (r .held) area ≡ true
-  pub eight : length (r .device .connections) ≡ 8
-  pub counts : length (r .held) ≡ 8
+  pub eight : length (r .device .connections) ≡ connectionCount
+  pub counts : length (r .held) ≡ connectionCount
   pub octets : Octets area
 
 pub record CallsKeep : Type 0 where

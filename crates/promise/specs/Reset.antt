@@ -25,17 +25,19 @@ use Rattle.objects.specs.Methods.{methodNumber, lockMethod}
 use Rattle.device.specs.State.{muteCount, freshOf}
 use Rattle.device.specs.Run as commands
 use Rattle.device.specs.declared.Device.{Device}
-use Rattle.stream.specs.Machine.{ask, handed, asked, Held, none-held, step, glue}
+use Rattle.stream.specs.Machine.{ask, handed, asked, Held, none-held, step}
 use Rattle.stream.specs.Promise.{AllBytes}
+use Rattle.answers.specs.Numbers.{resettingNumbers}
+use Rattle.answers.specs.declared.Resetting.the-variants as resettings
 use Rattle.endpoint.specs.State.{freshState, recordObeys}
 use Rattle.numbers.specs.Refusal.{badRecord, badArea}
 use Rattle.endpoint.specs.Outcome.{outcome, refused}
 use Rattle.reset.specs.Datagram.{restarted, datagramCall}
 use Rattle.endpoint.specs.declared.Record.{Record}
-use Rattle.promise.specs.Rulebook.{datagram, Asked, rule, open?, admit, shut}
+use Rattle.promise.specs.Rulebook.{datagram, Asked, rule, open?, admit}
 use Rattle.promise.specs.Calls.{HostCall}
 use Rattle.promise.specs.Kept.{Accepted}
-use Rattle.promise.specs.Stream.{runCalls, machine}
+use Rattle.promise.specs.Stream.{runCalls, wholeCalls}
 use Rattle.promise.specs.Technician.{lockStatus}
 
 -- what a datagram needs to reset: a record and an area that rows 1 and 2 let pass, a mechanism that is armed, the sentinel and its key
@@ -46,7 +48,7 @@ pub record Matches (r : Record) (area g : List ℕ) : Type 0 where
 
 -- the datagram is answered by a reset
 abbrev pub Resets : Record → List ℕ → List ℕ → Type 0
-Resets r area g = datagramCall r area g .answer ≡ 0 ∷ 1 ∷ []
+Resets r area g = datagramCall r area g .answer ≡ resettingNumbers resettings.Done
 
 pub record ResetByKey : Type 0 where
   -- "resets if the mechanism is armed and the key matches", and exactly then
@@ -68,7 +70,7 @@ pub record ResetByKey : Type 0 where
   pub refusedArea : (r : Record) (area g : List ℕ) → recordObeys r ≡ true → areaSound (r .held) area ≡ false
       → datagramCall r area g ≡ refused badArea r area []
   pub nothing : (r : Record) (area g : List ℕ) → Accepted r area → ¬ Resets r area g
-      → datagramCall r area g ≡ outcome (0 ∷ 0 ∷ []) r area []
+      → datagramCall r area g ≡ outcome (resettingNumbers resettings.Nothing) r area []
   -- "demand 3 counts anew from there": what follows a reset is what follows a fresh record and a zeroed area
   pub anew : (r : Record) (area g : List ℕ) (cs : List HostCall) → Resets r area g
       → let fresh = runCalls (freshState (r .device .reading)) (zeros areaBytes) cs in
@@ -112,7 +114,7 @@ pub record RackFreeAgain : Type 0 where
       → lockStatus (datagramCall r area g .state .device) k at ≡ carriedOut
   -- whatever calls come after it, as long as no message asks for a channel, the first to ask for it gets it
   pub first : (r : Record) (area g : List ℕ) (cs : List HostCall) → Resets r area g → AllBytes cs → (k at : ℕ) → at < muteCount
-      → nobodyAsks at (glue shut none-held (machine (freshOf (r .device .reading)) none-held cs .1) .0) ≡ true
+      → nobodyAsks at (wholeCalls (freshOf (r .device .reading)) none-held cs) ≡ true
       → lockStatus (runCalls r area (ask (datagram g) ∷ cs) .0 .0 .device) k at ≡ carriedOut
   -- he then holds it, and another's lock of it is refused as held by another
   pub holds : (d : Device) (k j at : ℕ) → k < connectionCount → at < muteCount → length (d .holders) ≡ muteCount

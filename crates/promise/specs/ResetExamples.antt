@@ -8,10 +8,14 @@ use Rattle.reader.specs.Examples.{lock4097, reply7}
 use Rattle.layout.specs.Message as layouts
 use Rattle.mechanism.specs.Datagram.{sentinel}
 use Rattle.objects.specs.Methods.{deviceManager, subscriptionManager}
+use Rattle.numbers.specs.Status.{noMethod, malformed, heldByOther, badValue, carriedOut}
+use Rattle.answers.specs.Numbers.{resettingNumbers}
+use Rattle.answers.specs.declared.Resetting.{Resetting}
+use Rattle.answers.specs.declared.Resetting.the-variants as resettings
 use Rattle.device.specs.declared.Device.{Device}
 use Rattle.stream.specs.Machine.{asked}
 use Rattle.promise.specs.Rulebook.{opening, closing, datagram, rule}
-use Rattle.promise.specs.Examples.{Row, row, twoOpen, afterMessage, replyTo}
+use Rattle.promise.specs.Examples.{Row, row, twoOpen, afterMessage, replyRow}
 
 -- a command of 3.14 for an object, with handle 7 and this parameter count
 abbrev pub setKey : ℕ → ℕ → List ℕ → List ℕ
@@ -62,34 +66,35 @@ armedAgain = afterMessage (armedWith keyA []) 1 (setKey deviceManager 2 (argumen
 abbrev pub mechanismOf : Device → List ℕ
 mechanismOf d = d .mechanism .key ++ (d .mechanism .address ++ (d .mechanism .port ∷ []))
 
-abbrev pub datagramAnswer : Device → List ℕ → List ℕ
-datagramAnswer d g = rule d (asked (datagram g)) .1 .answer
-
 abbrev pub afterDatagram : Device → List ℕ → Device
 afterDatagram d g = rule d (asked (datagram g)) .0
 
--- the reply to a 3.14 with status 0, and with another
+-- the reply to a 3.14 with these parameters
 abbrev pub statusRow : List ℕ → ℕ → Row
-statusRow part status = row (replyTo (twoOpen 0) 0 (setKey deviceManager 2 part)) (2 ∷ 20 ∷ reply7 status)
+statusRow part status = replyRow (twoOpen 0) 0 (setKey deviceManager 2 part) (reply7 status)
+
+-- the answer to a datagram
+abbrev pub datagramRow : Device → List ℕ → Resetting → Row
+datagramRow d g answer = row (rule d (asked (datagram g)) .1 .answer) (resettingNumbers answer)
 
 -- "status 4 for wrong count or lengths, then 7 for the text or port 0"
 abbrev pub statusRows : List Row
 statusRows =
-    statusRow (arguments keyA 0 [] 50000) 0
-    ∷ statusRow (arguments noKey 0 [] 65535) 0
-    ∷ statusRow (arguments keyA 11 text239 1) 0
-    ∷ statusRow (arguments keyA 0 [] 0) 7
-    ∷ statusRow (arguments keyA 9 text240 50000) 7
-    ∷ statusRow (arguments keyA 15 text223 50000) 7
-    ∷ statusRow (arguments keyA 7 text0 50000) 7
-    ∷ statusRow (arguments keyA 10 textLeading 50000) 7
-    ∷ statusRow (arguments keyA 7 textShort 50000) 7
-    ∷ statusRow (arguments keyA 12 text239 50000) 4
-    ∷ statusRow (arguments keyA 10 text239 50000) 4
-    ∷ statusRow keyA 4
-    ∷ statusRow [] 4
-    ∷ row (replyTo (twoOpen 0) 0 (setKey deviceManager 1 (arguments keyA 0 [] 0))) (2 ∷ 20 ∷ reply7 4)
-    ∷ row (replyTo (twoOpen 0) 0 (setKey subscriptionManager 2 (arguments keyA 0 [] 50000))) (2 ∷ 20 ∷ reply7 11)
+    statusRow (arguments keyA 0 [] 50000) carriedOut
+    ∷ statusRow (arguments noKey 0 [] 65535) carriedOut
+    ∷ statusRow (arguments keyA 11 text239 1) carriedOut
+    ∷ statusRow (arguments keyA 0 [] 0) badValue
+    ∷ statusRow (arguments keyA 9 text240 50000) badValue
+    ∷ statusRow (arguments keyA 15 text223 50000) badValue
+    ∷ statusRow (arguments keyA 7 text0 50000) badValue
+    ∷ statusRow (arguments keyA 10 textLeading 50000) badValue
+    ∷ statusRow (arguments keyA 7 textShort 50000) badValue
+    ∷ statusRow (arguments keyA 12 text239 50000) malformed
+    ∷ statusRow (arguments keyA 10 text239 50000) malformed
+    ∷ statusRow keyA malformed
+    ∷ statusRow [] malformed
+    ∷ replyRow (twoOpen 0) 0 (setKey deviceManager 1 (arguments keyA 0 [] 0)) (reply7 malformed)
+    ∷ replyRow (twoOpen 0) 0 (setKey subscriptionManager 2 (arguments keyA 0 [] 50000)) (reply7 noMethod)
     ∷ []
 
 -- "The record keeps key, address (4 bytes, zeros for no text) and port"; "a closure leaves it"; "The latest key counts"
@@ -98,20 +103,20 @@ keptRows =
     row (mechanismOf (armedWith keyA [])) (keyA ++ (0 ∷ 0 ∷ 0 ∷ 0 ∷ 50000 ∷ []))
     ∷ row (mechanismOf (armedWith keyA text239)) (keyA ++ (239 ∷ 255 ∷ 0 ∷ 1 ∷ 50000 ∷ []))
     ∷ row (mechanismOf (rule (armedWith keyA []) (asked (closing 0)) .0)) (keyA ++ (0 ∷ 0 ∷ 0 ∷ 0 ∷ 50000 ∷ []))
-    ∷ row (datagramAnswer armedAgain (sentinel ++ keyA)) (0 ∷ 0 ∷ [])
-    ∷ row (datagramAnswer armedAgain (sentinel ++ keyB)) (0 ∷ 1 ∷ [])
+    ∷ datagramRow armedAgain (sentinel ++ keyA) resettings.Nothing
+    ∷ datagramRow armedAgain (sentinel ++ keyB) resettings.Done
     ∷ []
 
 -- "A datagram of exactly 24 bytes, the sentinel .. and the key, resets if the mechanism is armed and the key matches"
 abbrev pub datagramRows : List Row
 datagramRows =
-    row (datagramAnswer (armedWith keyA []) (sentinel ++ keyA)) (0 ∷ 1 ∷ [])
-    ∷ row (datagramAnswer (armedWith keyA []) (sentinel ++ keyB)) (0 ∷ 0 ∷ [])
-    ∷ row (datagramAnswer (armedWith keyA []) (sentinel ++ (keyA ++ (0 ∷ [])))) (0 ∷ 0 ∷ [])
-    ∷ row (datagramAnswer (armedWith keyA []) keyA) (0 ∷ 0 ∷ [])
-    ∷ row (datagramAnswer (armedWith keyA []) []) (0 ∷ 0 ∷ [])
-    ∷ row (datagramAnswer (armedWith noKey []) (sentinel ++ noKey)) (0 ∷ 1 ∷ [])
-    ∷ row (datagramAnswer (twoOpen 0) (sentinel ++ noKey)) (0 ∷ 0 ∷ [])
+    datagramRow (armedWith keyA []) (sentinel ++ keyA) resettings.Done
+    ∷ datagramRow (armedWith keyA []) (sentinel ++ keyB) resettings.Nothing
+    ∷ datagramRow (armedWith keyA []) (sentinel ++ (keyA ++ (0 ∷ []))) resettings.Nothing
+    ∷ datagramRow (armedWith keyA []) keyA resettings.Nothing
+    ∷ datagramRow (armedWith keyA []) [] resettings.Nothing
+    ∷ datagramRow (armedWith noKey []) (sentinel ++ noKey) resettings.Done
+    ∷ datagramRow (twoOpen 0) (sentinel ++ noKey) resettings.Nothing
     ∷ []
 
 -- connection 0 holds 4097 and has hung: another gets status 3; after the reset, whoever comes as connection 0 gets status 0
@@ -123,11 +128,11 @@ again = rule (afterDatagram hung (sentinel ++ keyA)) (asked opening) .0
 
 abbrev pub rackRows : List Row
 rackRows =
-    row (replyTo hung 1 lock4097) (2 ∷ 20 ∷ reply7 3)
-    ∷ row (replyTo again 0 lock4097) (2 ∷ 20 ∷ reply7 0)
+    replyRow hung 1 lock4097 (reply7 heldByOther)
+    ∷ replyRow again 0 lock4097 (reply7 carriedOut)
     ∷ row (again .reading ∷ mechanismOf again) (5000 ∷ noKey ++ (0 ∷ 0 ∷ 0 ∷ 0 ∷ 0 ∷ []))
-    ∷ row (datagramAnswer again (sentinel ++ keyA)) (0 ∷ 0 ∷ [])
-    ∷ row (datagramAnswer again (sentinel ++ noKey)) (0 ∷ 0 ∷ [])
+    ∷ datagramRow again (sentinel ++ keyA) resettings.Nothing
+    ∷ datagramRow again (sentinel ++ noKey) resettings.Nothing
     ∷ []
 
 abbrev pub resetTable : List Row

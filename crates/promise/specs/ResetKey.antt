@@ -25,15 +25,15 @@ use Rattle.device.specs.State.{withMechanism}
 use Rattle.device.specs.Run.{statusOf}
 use Rattle.device.specs.Run as commands
 use Rattle.device.specs.declared.Device.{Device}
-use Rattle.stream.specs.Machine.{deliver, ask, handed, asked, Held, glue}
+use Rattle.stream.specs.Machine.{deliver, ask, handed, asked, Held}
 use Rattle.stream.specs.Promise.{AllBytes}
 use Rattle.endpoint.specs.State.{stateOf}
 use Rattle.endpoint.specs.Outcome.{Outcome}
 use Rattle.endpoint.specs.declared.Record.{Record}
-use Rattle.promise.specs.Rulebook.{opening, closing, ticking, taking, datagram, Asked, rule, shut}
+use Rattle.promise.specs.Rulebook.{opening, closing, ticking, taking, datagram, Asked, rule}
 use Rattle.promise.specs.Calls.{HostCall}
 use Rattle.promise.specs.Calls.{callOf, recordWith, areaWith}
-use Rattle.promise.specs.Stream.{runCalls, machine, GoodState}
+use Rattle.promise.specs.Stream.{runCalls, wholeCalls, GoodState}
 
 -- ---- the latest key
 
@@ -92,7 +92,7 @@ pub record LatestKeyCounts : Type 0 where
   -- any list of calls, from any state that keeps the rules: the mechanism is that of the whole calls, one after another
   pub calls : (d : Device) (h : Held) (cs : List HostCall) → GoodState d h → AllBytes cs
       → runCalls (recordWith d h) (areaWith h) cs .0 .0 .device .mechanism
-      ≡ latestOver (d .mechanism) (glue shut h (machine d h cs .1) .0)
+      ≡ latestOver (d .mechanism) (wholeCalls d h cs)
 
 -- ---- the key stays inside
 

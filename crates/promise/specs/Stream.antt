@@ -11,14 +11,14 @@ use Rattle.frame.specs.Decide.{decide, settled}
 use Rattle.area.specs.Area.{areaBytes}
 use Rattle.device.specs.State.{freshOf}
 use Rattle.device.specs.declared.Device.{Device}
-use Rattle.stream.specs.Machine.{deliver, ask, Answer, Held, none-held, run, step}
+use Rattle.stream.specs.Machine.{deliver, ask, Answer, Held, none-held, run, step, glue}
 use Rattle.stream.specs.Promise.{AllBytes, Good, Streamed}
 use Rattle.stream.specs.Cut.{drips, comesTo}
 use Rattle.endpoint.specs.State.{freshState}
 use Rattle.endpoint.specs.Outcome.{Outcome}
 use Rattle.replies.specs.Bytes.{leastOutput}
 use Rattle.endpoint.specs.declared.Record.{Record}
-use Rattle.promise.specs.Rulebook.{Given, rule, open?, admit, shut, Fine}
+use Rattle.promise.specs.Rulebook.{Asked, Given, rule, open?, admit, shut, Fine}
 use Rattle.promise.specs.Calls.{HostCall, callOf, recordWith, areaWith, outcomeOf}
 use Rattle.promise.specs.Kept.{Kept}
 
@@ -40,6 +40,10 @@ gives d h (c ∷ cs) =
 
 abbrev pub machine : Device → Held → List HostCall → (Device × Held) × List (HostCall × Answer Given)
 machine d h cs = run rule open? admit d h cs
+
+-- the whole calls that a host glues together from such a run
+abbrev pub wholeCalls : Device → Held → List HostCall → List Asked
+wholeCalls d h cs = glue shut h (machine d h cs .1) .0
 
 -- device d with h held keeps the rules, and its undecided bytes wait
 abbrev pub GoodState : Device → Held → Type 0

@@ -12,7 +12,7 @@ use Rattle.frame.specs.Decide.{decide, settled}
 use Rattle.frame.specs.declared.Decision.the-variants.{Undecided}
 use Rattle.area.specs.Area.{undecidedOf}
 use Rattle.mechanism.specs.Datagram.{resets}
-use Rattle.connection.specs.State.{closed, liveAt}
+use Rattle.connection.specs.State.{connectionCount, closed, liveAt}
 use Rattle.subscription.specs.State.{firstMute}
 use Rattle.objects.specs.Methods.{lockMethod}
 use Rattle.device.specs.State.{muteCount}
@@ -21,8 +21,10 @@ use Rattle.device.specs.Run.{runOf}
 use Rattle.device.specs.Closure.{Gone, Stays}
 use Rattle.device.specs.declared.Device.{Device}
 use Rattle.stream.specs.Machine.{deliver, ask}
+use Rattle.answers.specs.Numbers.{tickingNumbers}
+use Rattle.answers.specs.declared.Ticking.the-variants as tickings
 use Rattle.endpoint.specs.Outcome.{refused}
-use Rattle.numbers.specs.Refusal.{clockBack}
+use Rattle.numbers.specs.Refusal.{notRefused, badRecord, clockBack}
 use Rattle.endpoint.specs.Calls.{tickCall}
 use Rattle.endpoint.specs.Deliver.{heldAt, deliverCall}
 use Rattle.endpoint.specs.declared.Record.{Record}
@@ -33,7 +35,7 @@ use Rattle.promise.specs.Kept.{Accepted}
 -- connection n of a device of eight is open, with heartbeat H above zero and that silence; that the device obeys the rules follows
 -- where a call is not refused
 pub record Watched (d : Device) (n H silence : ℕ) : Type 0 where
-  pub eight : length (d .connections) ≡ 8
+  pub eight : length (d .connections) ≡ connectionCount
   pub live : liveAt (d .connections) n ≡ true
   pub above : 0 < H
   pub beat : getD (d .connections) n closed .beat ≡ H
@@ -43,14 +45,14 @@ pub record Watched (d : Device) (n H silence : ℕ) : Type 0 where
 abbrev pub stepAt : Record → ℕ → ℕ
 stepAt r reading = stepOf reading (r .device .reading)
 
--- the tick is not refused: its answer's first number is 0
+-- the tick is not refused
 unfoldable pub passes : Record → List ℕ → ℕ → Bool
-passes r area reading = eqb (getD (tickCall r area reading .answer) 0 1) 0
+passes r area reading = eqb (getD (tickCall r area reading .answer) 0 badRecord) notRefused
 
 -- the tick closes connection n: bit n of its answer is set, nothing of the connection is left, and its count of bytes is 0
 pub record Closes (r : Record) (area : List ℕ) (reading n : ℕ) : Type 0 where
   pub mask : ℕ
-  pub answer : tickCall r area reading .answer ≡ 0 ∷ mask ∷ []
+  pub answer : tickCall r area reading .answer ≡ tickingNumbers (tickings.Closed mask)
   pub bit : bitOf mask n ≡ true
   pub gone : Gone n (r .device) (tickCall r area reading .state .device)
   pub bytes : getD (tickCall r area reading .state .held) n 0 ≡ 0
@@ -58,7 +60,7 @@ pub record Closes (r : Record) (area : List ℕ) (reading n : ℕ) : Type 0 wher
 -- the tick leaves connection n open, with that silence and the same H: its bit is not set, its locks and entries are as they were
 pub record Leaves (r : Record) (area : List ℕ) (reading n H silence : ℕ) : Type 0 where
   pub mask : ℕ
-  pub answer : tickCall r area reading .answer ≡ 0 ∷ mask ∷ []
+  pub answer : tickCall r area reading .answer ≡ tickingNumbers (tickings.Closed mask)
   pub bit : bitOf mask n ≡ false
   pub watched : Watched (tickCall r area reading .state .device) n H silence
   pub stays : Stays n (r .device) (tickCall r area reading .state .device)
