@@ -6,20 +6,18 @@ use mathlib.Core.List.{List, _++_, append-assoc}
 use native.Mathlib.Omega.{arith}
 use native.Mathlib.Decide.{decLe}
 use lib.ListN.{length, take, drop, length-append, length-take, length-drop, take-append-drop}
-use lib.Seq.{sets, sets-eq, length-sets, take-all, take-at, drop-at, take-take, take-append-le, take-append-add, drop-append-le, length-take-le, take-length}
+use lib.Seq.{sets, sets-eq, length-sets, take-all, take-at, take-take, take-append-le, drop-append-le, length-take-le, take-length}
 use Rattle.laws.proofs.Parts.{drop-take}
 use Rattle.laws.proofs.Stores.{take-sets, drop-sets}
 use Rattle.octets.specs.Zeros.{zeros}
 use Rattle.octets.proofs.Scans.{length-zeros}
 use Rattle.frame.specs.Limits.{greatestSize}
 use Rattle.frame.specs.Decide.{decide, taken, settled}
-use Rattle.frame.specs.Scaffold.{SoundAt}
-use Rattle.frame.specs.declared.Decision.{Decision}
-use Rattle.frame.specs.declared.Decision.the-variants.{Undecided, Faulty, Sound}
+use Rattle.frame.specs.declared.Decision.the-variants.{Undecided, Sound}
 use Rattle.frame.proofs.Ways.{deciding, unsettled}
 use Rattle.frame.proofs.Sounds.{sound-at}
 use Rattle.frame.proofs.Bytes.{beyond}
-use Rattle.area.specs.Area.{partBytes, areaBytes, partAt, undecidedOf, partCleared}
+use Rattle.area.specs.Area.{partBytes, partAt, undecidedOf, partCleared}
 use Rattle.area.specs.Scaffold.{ZerosBehind, Lying, MessageLies, gathered}
 use Rattle.area.proofs.Clears.{zeros-further}
 

@@ -4,7 +4,7 @@ use mathlib.Core.Path.{_≡_, sym, ap, _∙_}
 use mathlib.Core.List.{List}
 use Rattle.answers.specs.Numbers.{openingNumbers, closingNumbers, tickingNumbers, deliveryNumbers, takingNumbers}
 use Rattle.answers.proofs.Tells.{answers-tell}
-use Rattle.endpoint.specs.Outcome.{Outcome, outcome}
+use Rattle.endpoint.specs.Outcome.{Outcome}
 use Rattle.endpoint.specs.Tell.{SameResult, ResultsTell}
 
 -- numbers that tell answers apart leave one result for an outcome

@@ -1,7 +1,7 @@
 -- A datagram on the reset mechanism's port: document 02 (ii).
 use Prim.Native.Nat.{ℕ}
 use mathlib.Core.Bool.{cond}
-use mathlib.Core.List.{List, [], _∷_}
+use mathlib.Core.List.{List, []}
 use Rattle.octets.specs.Zeros.{zeros}
 use Rattle.mechanism.specs.Datagram.{resets}
 use Rattle.area.specs.Area.{areaBytes, areaSound}

@@ -1,11 +1,10 @@
 -- The reply to a message of commands: it fits the output, and its stores leave it at the front. Assumes nothing.
 use Prim.Native.Nat.{ℕ, zero, suc, _+_, _-_, _*_, _≤_, _<_}
-use mathlib.Core.Path.{_≡_, refl, sym, ap, _∙_}
-use mathlib.Core.Bool.{Bool, cond, true, false}
+use mathlib.Core.Path.{_≡_, refl, sym, _∙_}
+use mathlib.Core.Bool.{true}
 use mathlib.Core.List.{List, []}
 use native.Mathlib.Omega.{arith}
-use lib.Dec.{eqb}
-use lib.ListN.{length, take, drop, length-drop}
+use lib.ListN.{length, drop, length-drop}
 use lib.Seq.{sets, take-length}
 use borrow.Author.Tests.{eq-eqb, ne-eqb}
 use Rattle.laws.proofs.Stores.{sets-comm}
@@ -17,12 +16,12 @@ use Rattle.frame.specs.Scaffold.{SoundAt}
 use Rattle.frame.proofs.Entries.{entry-at, entries-first, least-command}
 use Rattle.frame.proofs.Headers.{sound-header}
 use Rattle.layout.specs.Message.{headBytes, message, atFront}
-use Rattle.layout.proofs.Messages.{length-head, length-message, put-whole}
+use Rattle.layout.proofs.Messages.{length-head, put-whole}
 use Rattle.device.specs.State.{sentAt}
 use Rattle.device.specs.declared.Device.{Device}
 use Rattle.serve.specs.Serve.{lastOf, responsesOf}
 use Rattle.serve.proofs.Serves.{responses-few}
-use Rattle.serve.specs.Sound.{Ruled, ruled, commandsOf}
+use Rattle.serve.specs.Sound.{ruled, commandsOf}
 
 -- no more commands than a seventeenth of the bytes: 119 fit
 entries-many : (n kind : ℕ) (t : List ℕ) → kind < 2 → entriesFill n kind t ≡ true → n * 17 ≤ length t

@@ -2,7 +2,7 @@
 use Prim.Native.Nat.{ℕ, zero, suc, _+_, _-_, _*_, _≤_, _<_}
 use mathlib.Core.Path.{_≡_, refl, sym, ap, _∙_}
 use mathlib.Core.Bool.{Bool, cond, true, false}
-use mathlib.Core.List.{List, [], _∷_, _++_}
+use mathlib.Core.List.{List, _++_}
 use native.Mathlib.Omega.{arith}
 use native.Mathlib.Nat.{add-zero, not-suc-le-zero}
 use native.Mathlib.Numerals.{sub-one}
@@ -11,13 +11,10 @@ use lib.ListN.{length, take, drop, length-append}
 use lib.Seq.{sets, length-sets, length-take-le}
 use Rattle.laws.proofs.Stores.{sets-append}
 use Rattle.frame.specs.Limits.{leastResponse}
-use Rattle.frame.specs.Entry.{leastEntry, entrySize, entriesFill}
+use Rattle.frame.specs.Entry.{entrySize, entriesFill}
 use Rattle.frame.proofs.Entries.{entry-at, entries-first, least-command}
-use Rattle.fields.specs.Place.{parametersOf}
 use Rattle.fields.specs.Fields.{commandOf}
-use Rattle.objects.specs.declared.Answer.{Answer}
 use Rattle.device.specs.declared.Device.{Device}
-use Rattle.replies.specs.Bytes.{responseBytes}
 use Rattle.replies.proofs.Puts.{length-response}
 use Rattle.serve.specs.Serve.{ranWith, ranFirst, lastOf, responseTo, responsesOf}
 use Rattle.serve.proofs.Answers.{Fitting, run-fits}

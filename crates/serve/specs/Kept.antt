@@ -11,7 +11,7 @@ use Rattle.connection.specs.State.{liveAt}
 use Rattle.device.specs.State.{livesIn, sentAt, toldAt}
 use Rattle.device.specs.Obeys.{deviceObeys}
 use Rattle.device.specs.declared.Device.{Device}
-use Rattle.serve.specs.Sound.{Ruled, soundOf}
+use Rattle.serve.specs.Sound.{soundOf}
 
 pub record SoundKept : Type 0 where
   -- a sound message keeps the record rules

@@ -13,7 +13,7 @@ ghost use Rattle.frame.specs.Scaffold.{SoundAt};
 ghost use Rattle.layout.specs.Message.{atFront};
 ghost use Rattle.replies.specs.Bytes.{responseBytes};
 ghost use Rattle.serve.specs.Serve.{lastOf, responsesOf};
-ghost use Rattle.serve.specs.Sound.{Ruled, commandsOf, soundOf};
+ghost use Rattle.serve.specs.Sound.{commandsOf, soundOf};
 ghost use Rattle.serve.specs.Kept.{SoundKept};
 
 struct Served {

@@ -1,4 +1,4 @@
-use Rattle.area.specs.Area.{partBytes, partAt}
+use Rattle.area.specs.Area.{partAt}
 use Rattle.area.proofs.Clears.{used-cleared}
 use Rattle.octets.specs.Zeros.{zeros}
 use Rattle.octets.proofs.Scans.{length-zeros}
