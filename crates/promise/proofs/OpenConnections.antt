@@ -16,8 +16,9 @@ use Rattle.area.specs.Area.{countObeys, heldObeys}
 use Rattle.laws.specs.Lists.{any}
 use Rattle.connection.specs.State.{connectionCount, closed, opened, liveAt, isNotOpen, lowestFree, isLive}
 use Rattle.connection.specs.declared.Connection.{Connection}
-use Rattle.device.specs.State.{freshOf, withConnections, openOf, closeOf, sentAt, toldAt, livesIn}
+use Rattle.device.specs.State.{freshOf, openOf, closeOf, sentAt, toldAt, livesIn}
 use Rattle.device.specs.declared.Device.{Device}
+use Rattle.device.specs.Setters.{withConnections}
 use Rattle.device.specs.declared.Opened.{Opened}
 use Rattle.device.specs.declared.Opening.the-variants.{Number, Full}
 use Rattle.serve.specs.Sound.{soundOf}
