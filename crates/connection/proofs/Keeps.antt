@@ -13,8 +13,9 @@ use Rattle.heartbeat.specs.declared.Heartbeat.{Heartbeat}
 use Rattle.heartbeat.specs.declared.Heartbeat.the-variants.{InSeconds, InMilliseconds}
 use Rattle.connection.specs.State.{closed, opened}
 use Rattle.connection.specs.Obeys.{isClosed, isIdle, formObeys, isTimed, connectionObeys}
-use Rattle.connection.specs.Supervision.{fitsStep, closesAt, counted, quietAfter, connectionTicked, heardOf, sentOf, supervised, setBeat, beatingOf, heartbeatKept}
+use Rattle.connection.specs.Supervision.{fitsStep, closesAt, quietAfter, connectionTicked, heardOf, sentOf, setBeat, beatingOf, heartbeatKept}
 use Rattle.connection.specs.Kept.{fitsForm, SupervisionKept}
+use Rattle.connection.specs.Setters.{counted, supervised}
 use Rattle.connection.specs.declared.Connection.{Connection}
 use Rattle.connection.proofs.Times.{obeys-bound}
 

@@ -18,8 +18,9 @@ use Rattle.heartbeat.specs.declared.Heartbeat.{Heartbeat}
 use Rattle.heartbeat.specs.declared.Heartbeat.the-variants.{InSeconds}
 use Rattle.connection.specs.State.{closed, liveAt, isNotOpen, isDue}
 use Rattle.connection.specs.Obeys.{isClosed, isIdle, formObeys, isTimed, connectionObeys}
-use Rattle.connection.specs.Supervision.{fitsStep, closesAt, counted, quietAfter, connectionTicked, supervised, setBeat, heartbeatKept}
+use Rattle.connection.specs.Supervision.{fitsStep, closesAt, quietAfter, connectionTicked, setBeat, heartbeatKept}
 use Rattle.connection.specs.declared.Connection.{Connection}
+use Rattle.connection.specs.Setters.{counted, supervised}
 
 -- ---- tests
 -- a third of x below b, without the product

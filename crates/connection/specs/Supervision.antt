@@ -5,6 +5,7 @@ use lib.Dec.{eqb, leb}
 use Rattle.heartbeat.specs.Beat.{secondsForm, formOf, beatOf}
 use Rattle.heartbeat.specs.declared.Heartbeat.{Heartbeat}
 use Rattle.heartbeat.specs.declared.Heartbeat.the-variants.{InSeconds, InMilliseconds}
+use Rattle.connection.specs.Setters.{counted, supervised}
 use Rattle.connection.specs.State.{closed}
 use Rattle.connection.specs.declared.Connection.{Connection}
 
@@ -19,10 +20,6 @@ fitsStep step c = leb (c .silence + step) topCount && leb (c .quiet + step) topC
 -- "While the heartbeat H is above zero, a tick adds the step to silence; at 3 × H or more the connection is closed"
 unfoldable pub closesAt : ℕ → Connection → Bool
 closesAt step c = not (eqb (c .beat) 0) && leb (3 * c .beat) (c .silence + step)
-
-abbrev pub counted : Connection → ℕ → ℕ → Bool → Connection
-counted c silence quiet due =
-    record { live = c .live; form = c .form; beat = c .beat; silence = silence; quiet = quiet; due = due }
 
 -- "If it stays open and nothing is due, the step is added to quiet; at H or more, due is set and quiet becomes 0"
 unfoldable pub quietAfter : ℕ → Connection → Connection
@@ -46,9 +43,6 @@ heardOf c = counted c 0 (c .quiet) (c .due)
 -- "Anything the device sends on a connection clears quiet and due there"
 unfoldable pub sentOf : Connection → Connection
 sentOf c = counted c (c .silence) 0 false
-
-abbrev pub supervised : Connection → ℕ → ℕ → Connection
-supervised c form beat = record { live = c .live; form = form; beat = beat; silence = c .silence; quiet = c .quiet; due = c .due }
 
 -- "A keep-alive received sets the heartbeat"; "zero stops supervision and clears form"
 unfoldable pub setBeat : Heartbeat → Connection → Connection

@@ -69,8 +69,10 @@ pub fn take_in(
         },
         Decision::Faulty(f, t) => {
             area::clear_part(area, at);
+            let closed = device.close(n);
+            let next = closed.device;
             Delivered {
-                device: device.close(n),
+                device: next,
                 held: 0,
                 answer: Delivery::Closed(t - k, f),
             }

@@ -1,18 +1,17 @@
 -- A closure frees what the connection had, and nothing else. No code is named. Assumes nothing.
-use Prim.Native.Nat.{ℕ, _+_, _-_, _^_, _<_}
+use Prim.Native.Nat.{ℕ, _+_, _-_, _<_}
 use mathlib.Core.Path.{_≡_, refl, sym, ap, _∙_}
 use mathlib.Core.Logic.{⊎-elim}
 use mathlib.Core.Bool.{Bool, true, false, cond, not, _&&_, and-false}
 use mathlib.Core.List.{List, [], map}
 use native.Mathlib.Omega.{arith}
 use borrow.Author.Tests.{eqb-true, eqb-false, ne-eqb, ltb-true, ltb-false}
-use lib.Dec.{eqb, leb, ltb}
+use lib.Dec.{eqb, ltb}
 use lib.ListN.{length, getD, set, List·getD-eq-default, List·getD-map}
 use lib.Seq.{getD-set-same, getD-set-other, set-out}
-use Rattle.laws.specs.Lists.{all}
 use Rattle.laws.proofs.Tables.{clash, map-same, map-all, map-map}
 use Rattle.connection.specs.State.{closed, liveAt}
-use Rattle.connection.specs.Supervision.{fitsStep, closesAt, connectionTicked}
+use Rattle.connection.specs.Supervision.{connectionTicked}
 use Rattle.connection.specs.declared.Connection.{Connection}
 use Rattle.connection.proofs.Keeps.{supervision-kept}
 use Rattle.subscription.specs.State.{free, sweptOf}
@@ -26,7 +25,7 @@ use Rattle.device.specs.State.{sweepOf, closeOf}
 use Rattle.device.specs.Obeys.{deviceObeys}
 use Rattle.device.specs.Run.{runOf}
 use Rattle.device.specs.Time.{stepOf, advanced, tickStep, tickOf}
-use Rattle.device.specs.Closure.{isLockOf, isEntryOf, locksOf, subscriptionsOf, noLocks, noEntries, Gone, Stays, freedOf, ClosureFrees}
+use Rattle.device.specs.Closure.{isLockOf, isEntryOf, locksOf, subscriptionsOf, noLocks, noEntries, Gone, Stays, freedOf, Passing, isExpiring, ClosureFrees}
 use Rattle.device.specs.declared.Device.{Device}
 use Rattle.device.proofs.Keeps.{obeys-are}
 use Rattle.device.proofs.Commands.{lock-free}
@@ -172,24 +171,24 @@ wording d n h =
     )
 
 -- ---- a tick
-module _ (d : Device) (reading n : ℕ) (b : leb (2 ^ 31) (stepOf reading (d .reading)) ≡ false) (f : all (fitsStep (stepOf reading (d .reading))) (d .connections) ≡ true) where
+module _ (d : Device) (reading n : ℕ) (p : Passing d reading) where
   -- connection n after the tick
-  live-ticked : liveAt (map (connectionTicked (stepOf reading (d .reading))) (d .connections)) n ≡ (liveAt (d .connections) n && not (closesAt (stepOf reading (d .reading)) (getD (d .connections) n closed)))
+  live-ticked : liveAt (map (connectionTicked (stepOf reading (d .reading))) (d .connections)) n ≡ (liveAt (d .connections) n && not (isExpiring d reading n))
   unfolding liveAt connectionTicked
   live-ticked =
       ap (λ (c : Connection). c .live) (List·getD-map (connectionTicked (stepOf reading (d .reading))) (d .connections) n closed)
       ∙ supervision-kept .leaving (stepOf reading (d .reading)) (getD (d .connections) n closed)
 
-  ticking : closesAt (stepOf reading (d .reading)) (getD (d .connections) n closed) ≡ true → Gone n d (tickOf d reading .device)
+  ticking : isExpiring d reading n ≡ true → Gone n d (tickOf d reading .device)
   unfolding tickStep
   ticking c =
-      rw (b, f)
+      rw (p .early, p .fits)
       (sweep-gone d reading (map (connectionTicked (stepOf reading (d .reading))) (d .connections)) n (live-ticked ∙ rw (c, and-false)))
 
-  staying : liveAt (d .connections) n ≡ true → closesAt (stepOf reading (d .reading)) (getD (d .connections) n closed) ≡ false → Stays n d (tickOf d reading .device)
+  staying : liveAt (d .connections) n ≡ true → isExpiring d reading n ≡ false → Stays n d (tickOf d reading .device)
   unfolding tickStep
   staying l c =
-      rw (b, f)
+      rw (p .early, p .fits)
       (sweep-stays d reading (map (connectionTicked (stepOf reading (d .reading))) (d .connections)) n (live-ticked ∙ rw (l, c)))
 
 -- ---- a lock that is free again
@@ -209,13 +208,13 @@ unfolding closeOf sweepOf
 releasing d n k at h e =
     free-locks (closeOf d n) k at h (swept-at (set (d .connections) n closed) (d .holders) n at (live-closed (d .connections) n) e)
 
-expiring : (d : Device) (reading n k at : ℕ) → leb (2 ^ 31) (stepOf reading (d .reading)) ≡ false → all (fitsStep (stepOf reading (d .reading))) (d .connections) ≡ true → closesAt (stepOf reading (d .reading)) (getD (d .connections) n closed) ≡ true → at < 8 → getD (d .holders) at 0 ≡ n + 1 → runOf (tickOf d reading .device) k (4097 + at) lockMethod 0 [] .answer .status ≡ 0
+expiring : (d : Device) (reading n k at : ℕ) → Passing d reading → isExpiring d reading n ≡ true → at < 8 → getD (d .holders) at 0 ≡ n + 1 → runOf (tickOf d reading .device) k (4097 + at) lockMethod 0 [] .answer .status ≡ 0
 unfolding tickStep sweepOf
-expiring d reading n k at b f c h e =
+expiring d reading n k at p c h e =
     let cs = map (connectionTicked (stepOf reading (d .reading))) (d .connections) in
-    rw (b, f)
+    rw (p .early, p .fits)
     (free-locks (sweepOf (advanced d reading cs)) k at h
-    (swept-at cs (d .holders) n at (live-ticked d reading n b f ∙ rw (c, and-false)) e))
+    (swept-at cs (d .holders) n at (live-ticked d reading n p ∙ rw (c, and-false)) e))
 
 pub closure-frees : ClosureFrees
 closure-frees =

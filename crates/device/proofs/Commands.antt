@@ -4,26 +4,35 @@ use mathlib.Core.Path.{_≡_, refl, sym, ap, _∙_}
 use mathlib.Core.Bool.{Bool, true, false, cond, not, or-false}
 use mathlib.Core.List.{List, [], _∷_, map}
 use native.Mathlib.Omega.{arith}
-use borrow.Author.Tests.{le-leb, lt-ltb, le-ltb, eq-eqb, ne-eqb, eqb-true, not-true, not-false}
+use borrow.Author.Tests.{le-leb, lt-ltb, le-ltb, eq-eqb, ne-eqb, eqb-true, eqb-false, not-true, not-false}
 use lib.Dec.{eqb, ltb}
 use lib.ListN.{length, getD, set}
 use Rattle.laws.specs.Lists.{any}
 use Rattle.laws.proofs.Tables.{any-index, clash}
 use Rattle.octets.specs.Numbers.{be32At}
 use Rattle.mechanism.specs.Arguments.{isUntaken, armedBy, armingOf}
-use Rattle.mechanism.specs.declared.Mechanism.{Mechanism}
 use Rattle.mechanism.specs.declared.Arming.{Arming}
-use Rattle.subscription.specs.State.{isMute, isTwin, isUnused, twinAt, lowestUnused, free, markedOf}
+use Rattle.subscription.specs.Setters.{withContext}
+use Rattle.subscription.specs.State.{isTwin, isUnused, twinAt, lowestUnused, free, markedOf}
+use Rattle.subscription.specs.Arguments.{subscriptionFrom, isStrange, isEmitterBad}
 use Rattle.subscription.specs.declared.Subscription.{Subscription}
-use Rattle.objects.specs.Methods.{classMethod, lockableMethod, lockMethod, unlockMethod, getMethod, setMethod, addMethod, removeMethod, resetKeyMethod, placeOf, isManager, isObject, isTelling, isLocking, isMuting, isSubscribing, hasMethod}
-use Rattle.objects.specs.Tests.{isForbidden, countOf, lengthOf, isLengthBad, isPairBad, isMalformed, subscriptionFrom, withContext, isStrange, isEmitterBad, isMuteValue, isValueBad}
+use Rattle.objects.specs.Methods.{isMute, classMethod, lockableMethod, lockMethod, unlockMethod, getMethod, setMethod, addMethod, removeMethod, resetKeyMethod, placeOf, isManager, isObject, isTelling, isLocking, isMuting, isSubscribing, hasMethod}
+use Rattle.objects.specs.Tests.{isForbidden, countOf, lengthOf, isLengthBad, isPairBad, isMalformed, isMuteValue, isValueBad, firstStatus}
 use Rattle.objects.specs.Answers.{classOf, identificationOf, replyOf, failedOf, answerWith}
 use Rattle.objects.specs.declared.Answer.{Answer}
 use Rattle.holders.specs.Holders.{ownerOf, isOther}
-use Rattle.device.specs.State.{withSubscriptions, withHolders, withMechanism}
-use Rattle.device.specs.Run.{holderAt, muteAt, isHeldByOther, isSubscribed, isOutOfTurn, isFull, statusOf, mutedOf, doneOf, answerOf, unchanged, ranBy, runOf}
+use Rattle.device.specs.Setters.{withSubscriptions, withMutes, withHolders, withMechanism}
+use Rattle.device.specs.Run.{holderAt, muteAt, isHeldByOther, isSubscribed, isOutOfTurn, isFull, laterStatus, firstFailing, statusOf, mutedOf, doneOf, answerOf, unchanged, ranBy, runOf}
 use Rattle.device.specs.declared.Device.{Device}
 use Rattle.device.specs.declared.Ran.{Ran}
+
+-- ---- a status that stops nothing
+pub neither-fails : (first later : ℕ) → firstFailing first later ≡ 0 → (first ≡ 0) × (later ≡ 0)
+neither-fails first later e = go (eqb first 0) refl e
+  where
+    go : (t : Bool) → eqb first 0 ≡ t → cond t later first ≡ 0 → (first ≡ 0) × (later ≡ 0)
+    go true z f = (eqb-true first 0 z, f)
+    go false z f = absurd (eqb-false first 0 z f)
 
 -- ---- from the status to the outcome
 pub ran-failed : (d : Device) (n t m count : ℕ) (part : List ℕ) (s : ℕ) → statusOf d n t m count part ≡ s → eqb s 0 ≡ false → (a : Answer) → a ≡ failedOf s → unchanged d a ≡ runOf d n t m count part
@@ -49,19 +58,19 @@ place-of at = omega arith
 
 module _ (d : Device) (n at : ℕ) (h : at < 8) where
   lock-status : statusOf d n (4097 + at) lockMethod 0 [] ≡ cond (isOther (getD (d .holders) at 0) n) 3 0
-  unfolding statusOf isObject hasMethod isTelling isLocking isForbidden isMalformed countOf lengthOf isLengthBad isPairBad isHeldByOther holderAt isEmitterBad isSubscribing isValueBad isOutOfTurn isFull
+  unfolding statusOf firstStatus laterStatus isObject hasMethod isTelling isLocking isForbidden isMalformed countOf lengthOf isLengthBad isPairBad isHeldByOther holderAt isEmitterBad isSubscribing isValueBad isOutOfTurn isFull
   lock-status = rw (manager-not at, mute-is at h, place-of at)
 
   unlock-status : statusOf d n (4097 + at) unlockMethod 0 [] ≡ cond (isOther (getD (d .holders) at 0) n) 3 (cond (eqb (getD (d .holders) at 0) 0) 9 0)
-  unfolding statusOf isObject hasMethod isTelling isLocking isForbidden isMalformed countOf lengthOf isLengthBad isPairBad isHeldByOther holderAt isEmitterBad isSubscribing isValueBad isOutOfTurn isFull
+  unfolding statusOf firstStatus laterStatus isObject hasMethod isTelling isLocking isForbidden isMalformed countOf lengthOf isLengthBad isPairBad isHeldByOther holderAt isEmitterBad isSubscribing isValueBad isOutOfTurn isFull
   unlock-status = simp (manager-not at, mute-is at h, place-of at, or-false)
 
   pub get-status : statusOf d n (4097 + at) getMethod 0 [] ≡ 0
-  unfolding statusOf isObject hasMethod isTelling isLocking isMuting isForbidden isMalformed countOf lengthOf isLengthBad isPairBad isHeldByOther isEmitterBad isSubscribing isValueBad isOutOfTurn isFull
+  unfolding statusOf firstStatus laterStatus isObject hasMethod isTelling isLocking isMuting isForbidden isMalformed countOf lengthOf isLengthBad isPairBad isHeldByOther isEmitterBad isSubscribing isValueBad isOutOfTurn isFull
   get-status = rw (manager-not at, mute-is at h)
 
   set-status : (v : ℕ) → statusOf d n (4097 + at) setMethod 1 (v ∷ []) ≡ cond (isOther (getD (d .holders) at 0) n) 3 (cond (not (isMuteValue v)) 7 0)
-  unfolding statusOf isObject hasMethod isTelling isLocking isMuting isForbidden isMalformed countOf lengthOf isLengthBad isPairBad isHeldByOther holderAt isEmitterBad isSubscribing isValueBad isOutOfTurn isFull
+  unfolding statusOf firstStatus laterStatus isObject hasMethod isTelling isLocking isMuting isForbidden isMalformed countOf lengthOf isLengthBad isPairBad isHeldByOther holderAt isEmitterBad isSubscribing isValueBad isOutOfTurn isFull
   set-status v = simp (manager-not at, mute-is at h, place-of at, or-false)
 
   module _ (b : Bool) (q : b ≡ isOther (getD (d .holders) at 0) n) where
@@ -113,11 +122,11 @@ module _ (d : Device) (n at : ℕ) (h : at < 8) where
             stays : unchanged d (answerWith []) ≡ record { device = mutedOf d (4097 + at) v; answer = answerWith [] }
             stays = rw (place-of at, eq-eqb (getD (d .mutes) at 0) v s)
 
-        pub set-changed : not g ≡ false → (getD (d .mutes) at 0 ≡ v → ⊥) → (ss : List Subscription) → ss ≡ map (markedOf (4097 + at)) (d .subscriptions) → (a : Answer) → a ≡ answerWith [] → _≡_ {A = Ran} (record { device = record { reading = d .reading; connections = d .connections; subscriptions = ss; mutes = set (d .mutes) at v; holders = d .holders; mechanism = d .mechanism }; answer = a }) (runOf d n (4097 + at) setMethod 1 (v ∷ []))
+        pub set-changed : not g ≡ false → (getD (d .mutes) at 0 ≡ v → ⊥) → (ss : List Subscription) → ss ≡ map (markedOf (4097 + at)) (d .subscriptions) → (a : Answer) → a ≡ answerWith [] → _≡_ {A = Ran} (record { device = withMutes (withSubscriptions d ss) (set (d .mutes) at v); answer = a }) (runOf d n (4097 + at) setMethod 1 (v ∷ []))
         unfolding mutedOf muteAt
         set-changed f s ss m a e = rw (e, m) (changes ∙ set-does f)
           where
-            changes : _≡_ {A = Ran} (record { device = record { reading = d .reading; connections = d .connections; subscriptions = map (markedOf (4097 + at)) (d .subscriptions); mutes = set (d .mutes) at v; holders = d .holders; mechanism = d .mechanism }; answer = answerWith [] }) (record { device = mutedOf d (4097 + at) v; answer = answerWith [] })
+            changes : _≡_ {A = Ran} (record { device = withMutes (withSubscriptions d (map (markedOf (4097 + at)) (d .subscriptions))) (set (d .mutes) at v); answer = answerWith [] }) (record { device = mutedOf d (4097 + at) v; answer = answerWith [] })
             changes = rw (place-of at, ne-eqb (getD (d .mutes) at 0) v s)
 
 -- ---- what is told
@@ -151,11 +160,11 @@ twin-same n part x ss = refl
 
 module _ (d : Device) (n : ℕ) (part : List ℕ) where
   add-status : isMalformed addMethod 5 part ≡ false → statusOf d n 4 addMethod 5 part ≡ cond (isStrange part) 6 (cond (not (eqb (getD part 20 0) 1)) 7 (cond (isSubscribed d n part) 9 (cond (not (any isUnused (d .subscriptions))) 10 0)))
-  unfolding statusOf isObject isManager hasMethod isTelling isLocking isMuting isForbidden isHeldByOther isEmitterBad isSubscribing isValueBad isOutOfTurn isFull
+  unfolding statusOf firstStatus laterStatus isObject isManager hasMethod isTelling isLocking isMuting isForbidden isHeldByOther isEmitterBad isSubscribing isValueBad isOutOfTurn isFull
   add-status f = simp (f, or-false)
 
   remove-status : isMalformed removeMethod 2 part ≡ false → statusOf d n 4 removeMethod 2 part ≡ cond (isStrange part) 6 (cond (not (isSubscribed d n part)) 9 0)
-  unfolding statusOf isObject isManager hasMethod isTelling isLocking isMuting isForbidden isHeldByOther isEmitterBad isSubscribing isValueBad isOutOfTurn isFull
+  unfolding statusOf firstStatus laterStatus isObject isManager hasMethod isTelling isLocking isMuting isForbidden isHeldByOther isEmitterBad isSubscribing isValueBad isOutOfTurn isFull
   remove-status f = simp (f, or-false)
 
   -- a search's answer is whether the subscription is held
@@ -216,8 +225,12 @@ module _ (d : Device) (n : ℕ) (part : List ℕ) where
 -- ---- the mechanism
 -- "4 for wrong count or lengths, then 7 for the text or port 0": the status of 3.14 hangs on no device
 pub arm-status : (d : Device) (n count : ℕ) (part : List ℕ) → statusOf d n 1 resetKeyMethod count part ≡ cond (isMalformed resetKeyMethod count part) 4 (cond (isUntaken part) 7 0)
-unfolding statusOf isObject isManager hasMethod isTelling isLocking isMuting isForbidden isHeldByOther isEmitterBad isSubscribing isValueBad isOutOfTurn isFull
-arm-status d n count part = refl
+unfolding statusOf firstStatus laterStatus isObject isManager hasMethod isTelling isLocking isMuting isForbidden isHeldByOther isEmitterBad isSubscribing isValueBad isOutOfTurn isFull
+arm-status d n count part = go (isMalformed resetKeyMethod count part)
+  where
+    go : (b : Bool) → firstFailing (cond b 4 0) (cond (isUntaken part) 7 0) ≡ cond b 4 (cond (isUntaken part) 7 0)
+    go true = refl
+    go false = refl
 
 module _ (d : Device) (part : List ℕ) (f : isMalformed resetKeyMethod 2 part ≡ false) (o : Arming) (q : o ≡ armingOf part) (n : ℕ) where
   -- whether it is armed, told by what was made of the arguments

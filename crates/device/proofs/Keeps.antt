@@ -15,8 +15,9 @@ use Rattle.heartbeat.specs.declared.Heartbeat.{Heartbeat}
 use Rattle.heartbeat.specs.Beat.{beatOf, formOf}
 use Rattle.connection.specs.State.{closed, opened, liveAt, isNotOpen, lowestFree}
 use Rattle.connection.specs.Obeys.{connectionObeys}
-use Rattle.connection.specs.Supervision.{fitsStep, closesAt, connectionTicked, heardOf, sentOf, setBeat, supervised, beatingOf}
+use Rattle.connection.specs.Supervision.{fitsStep, closesAt, connectionTicked, heardOf, sentOf, setBeat, beatingOf}
 use Rattle.connection.specs.Kept.{fitsForm}
+use Rattle.connection.specs.Setters.{supervised}
 use Rattle.connection.specs.declared.Connection.{Connection}
 use Rattle.connection.proofs.Times.{live-below}
 use Rattle.connection.proofs.Keeps.{supervision-kept}
@@ -25,19 +26,21 @@ use Rattle.mechanism.specs.Arguments.{isUntaken, armedBy}
 use Rattle.mechanism.specs.Obeys.{mechanismObeys}
 use Rattle.mechanism.specs.declared.Mechanism.{Mechanism}
 use Rattle.mechanism.proofs.Kept.{mechanism-kept}
-use Rattle.subscription.specs.State.{changeEvent, free, isMute, isTwin, twinAt, lowestUnused, markedOf, toldOf, sweptOf}
+use Rattle.subscription.specs.Arguments.{subscriptionFrom, isStrange, isEmitterBad}
+use Rattle.subscription.specs.State.{free, isTwin, twinAt, lowestUnused, markedOf, toldOf, sweptOf}
 use Rattle.subscription.specs.Obeys.{entryObeys, apart}
 use Rattle.subscription.specs.declared.Subscription.{Subscription}
 use Rattle.subscription.proofs.Keeps.{entries-kept, obeys-sound}
-use Rattle.objects.specs.Methods.{lockMethod, unlockMethod, setMethod, addMethod, removeMethod, resetKeyMethod, placeOf, isObject, isSubscribing, hasMethod}
-use Rattle.objects.specs.Tests.{isForbidden, isMalformed, subscriptionFrom, isStrange, isEmitterBad, isMuteValue, isValueBad}
+use Rattle.objects.specs.Methods.{isMute, changeEvent, lockMethod, unlockMethod, setMethod, addMethod, removeMethod, resetKeyMethod, placeOf, isSubscribing}
+use Rattle.objects.specs.Tests.{isMuteValue, isValueBad, firstStatus}
 use Rattle.objects.specs.Answers.{failedOf}
 use Rattle.holders.specs.Holders.{ownerOf, holderObeys, sweptHolder}
 use Rattle.holders.proofs.Keeps.{holders-kept}
-use Rattle.device.specs.State.{freshOf, withConnections, withSubscriptions, withHolders, withMechanism, openOf, sweepOf, closeOf, atConnection, heardAt, sentAt, toldAt, beatingAt}
+use Rattle.device.specs.Setters.{withConnections, withSubscriptions, withMutes, withHolders, withMechanism}
+use Rattle.device.specs.State.{freshOf, openOf, sweepOf, closeOf, atConnection, heardAt, sentAt, toldAt, beatingAt}
 use Rattle.device.specs.Obeys.{deviceObeys}
 use Rattle.device.specs.Time.{stepOf, advanced, tickStep, tickOf}
-use Rattle.device.specs.Run.{holderAt, muteAt, isHeldByOther, isSubscribed, isOutOfTurn, statusOf, mutedOf, doneOf, answerOf, unchanged, ranBy, runOf}
+use Rattle.device.specs.Run.{holderAt, muteAt, isHeldByOther, isSubscribed, isOutOfTurn, laterStatus, statusOf, mutedOf, doneOf, answerOf, unchanged, ranBy, runOf}
 use Rattle.device.specs.Kept.{RulesKept, FailuresChangeNothing}
 use Rattle.device.specs.declared.Device.{Device}
 use Rattle.device.specs.declared.Opened.{Opened}
@@ -46,6 +49,7 @@ use Rattle.device.specs.declared.Ticked.{Ticked}
 use Rattle.device.specs.declared.Ticking.{Ticking}
 use Rattle.device.specs.declared.Ticking.the-variants.{Closed, ClockBack, Overrun}
 use Rattle.device.specs.declared.Ran.{Ran}
+use Rattle.device.proofs.Commands.{neither-fails}
 
 -- ---- the rules by name
 pub record Obeys (d : Device) : Type 0 where
@@ -232,12 +236,9 @@ record Passed (d : Device) (n target m : ℕ) (part : List ℕ) : Type 0 where
   turn : isOutOfTurn d n target m part ≡ false
 
 passed : (d : Device) (n target m count : ℕ) (part : List ℕ) → statusOf d n target m count part ≡ 0 → Passed d n target m part
-unfolding statusOf
+unfolding statusOf laterStatus
 passed d n target m count part e =
-    let e1 = cond-right (not (isObject target)) 5 _ 0 e (λ z. omega arith) .1 in
-    let e2 = cond-right (not (hasMethod target m)) 11 _ 0 e1 (λ z. omega arith) .1 in
-    let e3 = cond-right (isForbidden target m) 8 _ 0 e2 (λ z. omega arith) .1 in
-    let e4 = cond-right (isMalformed m count part) 4 _ 0 e3 (λ z. omega arith) .1 in
+    let e4 = neither-fails (firstStatus target m count part) (laterStatus d n target m part) e .1 in
     let e5 = cond-right (isHeldByOther d n target m) 3 _ 0 e4 (λ z. omega arith) .1 in
     let e6 = cond-right (isEmitterBad m part) 6 _ 0 e5 (λ z. omega arith) in
     let e7 = cond-right (isValueBad m part) 7 _ 0 (e6 .1) (λ z. omega arith) in
@@ -310,15 +311,7 @@ set-keeps d target v r h = go (eqb (muteAt d target) v)
     o = obeys-are d h
 
     changed : Device
-    changed =
-        record {
-          reading = d .reading;
-          connections = d .connections;
-          subscriptions = map (markedOf target) (d .subscriptions);
-          mutes = set (d .mutes) (placeOf target) v;
-          holders = d .holders;
-          mechanism = d .mechanism;
-        }
+    changed = withMutes (withSubscriptions d (map (markedOf target) (d .subscriptions))) (set (d .mutes) (placeOf target) v)
 
     go : (t : Bool) → deviceObeys (cond t d changed) ≡ true
     go true = h

@@ -2,7 +2,7 @@
 use Prim.Native.Nat.{ℕ, _+_, _-_, _<_}
 use mathlib.Core.Path.{_≡_, refl, sym, ap, _∙_}
 use mathlib.Core.Logic.{_⊎_, inl, inr}
-use mathlib.Core.Bool.{Bool, true, false, cond, not, _&&_, _||_, and-true, or-false}
+use mathlib.Core.Bool.{Bool, true, false, _&&_, _||_, and-true, or-false}
 use mathlib.Core.List.{List, [], _∷_}
 use native.Mathlib.Omega.{arith}
 use borrow.Author.Tests.{ne-eqb, eqb-true}
@@ -11,16 +11,17 @@ use lib.ListN.{length, getD}
 use Rattle.laws.proofs.Parts.{nil-of}
 use Rattle.laws.proofs.Tables.{or-cases}
 use Rattle.mechanism.specs.Arguments.{isMisfit}
-use Rattle.subscription.specs.State.{isMute}
-use Rattle.objects.specs.Methods.{classMethod, lockableMethod, lockMethod, unlockMethod, getMethod, setMethod, addMethod, removeMethod, resetKeyMethod, placeOf, isManager, isObject, isTelling, isLocking, isMuting, isSubscribing, hasMethod}
-use Rattle.objects.specs.Tests.{isForbidden, countOf, lengthOf, isLengthBad, isPairBad, isMalformed, isEmitterBad, isValueBad, firstStatus, Allowed}
+use Rattle.subscription.specs.Arguments.{isEmitterBad}
+use Rattle.objects.specs.Methods.{isMute, classMethod, lockableMethod, lockMethod, unlockMethod, getMethod, setMethod, addMethod, removeMethod, resetKeyMethod, placeOf, isManager, isObject, isTelling, isLocking, isMuting, isSubscribing, hasMethod}
+use Rattle.objects.specs.Tests.{isForbidden, countOf, lengthOf, isLengthBad, isPairBad, isMalformed, isValueBad, firstStatus}
+use Rattle.objects.specs.Scaffold.{Allowed}
 use Rattle.objects.specs.Answers.{failedOf}
 use Rattle.objects.specs.declared.Answer.{Answer}
 use Rattle.objects.proofs.Shapes.{mute-at, formed-are, first-allowed}
-use Rattle.device.specs.Run.{isHeldByOther, isOutOfTurn, isFull, statusOf, doneOf, answerOf, unchanged, runOf}
+use Rattle.device.specs.Run.{isHeldByOther, isOutOfTurn, isFull, laterStatus, statusOf, doneOf, answerOf, unchanged, runOf}
 use Rattle.device.specs.declared.Device.{Device}
 use Rattle.device.specs.declared.Ran.{Ran}
-use Rattle.device.proofs.Commands.{ran-failed, ran-done, get-status}
+use Rattle.device.proofs.Commands.{neither-fails, ran-failed, ran-done, get-status}
 
 -- ---- lengths
 pub add-size : (part : List ℕ) → isMalformed addMethod 5 part ≡ false → length part ≡ 23
@@ -60,11 +61,11 @@ module _ (d : Device) (n t m : ℕ) (part : List ℕ) (r : Ran) (f : isMalformed
       as-none k w c0 l0 e (q ∙ ap (λ (x : Device). unchanged x (answerOf d t k)) (sym g) ∙ ran-done d n t k 0 [] s)
 
   as-class : isObject t ≡ true → m ≡ classMethod → r ≡ unchanged d (answerOf d t classMethod) → r ≡ runOf d n t m (countOf m) part
-  unfolding countOf lengthOf doneOf statusOf hasMethod isTelling isLocking isForbidden isMalformed isLengthBad isPairBad isHeldByOther isEmitterBad isSubscribing isValueBad isOutOfTurn isFull
+  unfolding countOf lengthOf doneOf statusOf firstStatus laterStatus hasMethod isTelling isLocking isForbidden isMalformed isLengthBad isPairBad isHeldByOther isEmitterBad isSubscribing isValueBad isOutOfTurn isFull
   as-class o e q = as-told classMethod refl refl refl refl (rw o) e q
 
   as-lockable : isObject t ≡ true → m ≡ lockableMethod → r ≡ unchanged d (answerOf d t lockableMethod) → r ≡ runOf d n t m (countOf m) part
-  unfolding countOf lengthOf doneOf statusOf hasMethod isTelling isLocking isForbidden isMalformed isLengthBad isPairBad isHeldByOther isEmitterBad isSubscribing isValueBad isOutOfTurn isFull
+  unfolding countOf lengthOf doneOf statusOf firstStatus laterStatus hasMethod isTelling isLocking isForbidden isMalformed isLengthBad isPairBad isHeldByOther isEmitterBad isSubscribing isValueBad isOutOfTurn isFull
   as-lockable o e q = as-told lockableMethod refl refl refl refl (rw o) e q
 
   as-add : m ≡ addMethod → r ≡ runOf d n t addMethod 5 part → r ≡ runOf d n t m (countOf m) part
@@ -164,32 +165,17 @@ module _ (t k count : ℕ) (part : List ℕ) (s : ℕ) (es : s ≡ firstStatus t
       set-size = rw set-left at (formed-are k (countOf k) part (passed .formed) .size (ne-eqb k resetKeyMethod y))
 
 -- a command with status 0 is stopped by none of the first
-first-none : (a b c e : Bool) (x : ℕ) → cond {A = ℕ} a 5 (cond b 11 (cond c 8 (cond e 4 x))) ≡ 0 → cond {A = ℕ} a 5 (cond b 11 (cond c 8 (cond e 4 0))) ≡ 0
-first-none true b c e x q = q
-first-none false true c e x q = q
-first-none false false true e x q = q
-first-none false false false true x q = q
-first-none false false false false x q = refl
-
 pub status-allowed : (d : Device) (n t m count : ℕ) (part : List ℕ) → statusOf d n t m count part ≡ 0 → Allowed t m part
-unfolding statusOf firstStatus
+unfolding statusOf
 status-allowed d n t m count part q =
-    first-allowed t m count part (first-none (not (isObject t)) (not (hasMethod t m)) (isForbidden t m) (isMalformed m count part) _ q) .0
-
--- what stops a command is its status, whatever would come after
-first-stops : (a b c e : Bool) (x s : ℕ) → s ≡ cond a 5 (cond b 11 (cond c 8 (cond e 4 0))) → (s ≡ 0 → ⊥) → cond a 5 (cond b 11 (cond c 8 (cond e 4 x))) ≡ s
-first-stops true b c e x s q z = sym q
-first-stops false true c e x s q z = sym q
-first-stops false false true e x s q z = sym q
-first-stops false false false true x s q z = sym q
-first-stops false false false false x s q z = absurd (z q)
+    first-allowed t m count part (neither-fails (firstStatus t m count part) (laterStatus d n t m part) q .0) .0
 
 -- ---- one command: m is its method, of which k is the number
 module _ (d : Device) (n t m count : ℕ) (part : List ℕ) (k : ℕ) (ek : k ≡ m) (s : ℕ) (es : s ≡ firstStatus t k count part) where
   pub run-stopped : (s ≡ 0 → ⊥) → (a : Answer) → a ≡ failedOf s → unchanged d a ≡ runOf d n t m count part
-  unfolding statusOf firstStatus
+  unfolding statusOf
   run-stopped z a e =
-      let w : statusOf d n t k count part ≡ s = first-stops (not (isObject t)) (not (hasMethod t k)) (isForbidden t k) (isMalformed k count part) _ s es z in
+      let w : statusOf d n t k count part ≡ s = rw (← es, ne-eqb s 0 z) in
       ran-failed d n t k count part s w (ne-eqb s 0 z) a e ∙ ap (λ (j : ℕ). runOf d n t j count part) ek
 
   module _ (z : s ≡ 0) where

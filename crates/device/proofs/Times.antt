@@ -13,17 +13,21 @@ use Rattle.heartbeat.specs.declared.Heartbeat.{Heartbeat}
 use Rattle.connection.specs.State.{closed, opened, liveAt, isNotOpen, lowestFree}
 use Rattle.connection.specs.Supervision.{fitsStep, closesAt, connectionTicked, heardOf, sentOf, beatingOf}
 use Rattle.connection.specs.declared.Connection.{Connection}
-use Rattle.connection.proofs.Times.{live-below}
+use Rattle.connection.proofs.Times.{live-below, live-in, live-out}
 use Rattle.subscription.specs.State.{free, toldOf, sweptOf}
 use Rattle.subscription.specs.declared.Subscription.{Subscription}
 use Rattle.holders.specs.Holders.{sweptHolder}
-use Rattle.device.specs.State.{withConnections, withSubscriptions, openOf, sweepOf, closeOf, atConnection, heardAt, sentAt, toldAt, beatingAt}
+use Rattle.device.specs.Setters.{withConnections, withSubscriptions, withHolders}
+use Rattle.device.specs.State.{openOf, sweepOf, closeOf, closingOf, atConnection, heardAt, sentAt, toldAt, beatingAt}
 use Rattle.device.specs.Time.{stepOf, advanced, tickStep, tickOf}
 use Rattle.device.specs.declared.Device.{Device}
 use Rattle.device.specs.declared.Opened.{Opened}
 use Rattle.device.specs.declared.Opening.the-variants.{Number, Full}
+use Rattle.device.specs.declared.Closed.{Closed}
+use Rattle.device.specs.declared.Closing.the-variants.{Done, NotOpen}
 use Rattle.device.specs.declared.Ticked.{Ticked}
-use Rattle.device.specs.declared.Ticking.the-variants.{Closed, ClockBack, Overrun}
+use Rattle.device.specs.declared.Ticking.the-variants as ticks
+use Rattle.device.specs.declared.Ticking.the-variants.{ClockBack, Overrun}
 
 -- ---- one connection changed
 at-out : (f : Connection → Connection) (d : Device) (n : ℕ) → length (d .connections) ≡ 8 → 8 ≤ n → d ≡ atConnection f d n
@@ -65,13 +69,25 @@ module _ (d : Device) (n : ℕ) where
     beating-in h t x a e =
         rw (← q, not-false b t) (at-in (beatingOf h) d n x a (live-below (d .connections) n (sym q ∙ not-false b t)) e)
 
-  pub close-out : length (d .connections) ≡ 8 → 8 ≤ n → (r : Device) → r ≡ sweepOf d → r ≡ closeOf d n
-  unfolding closeOf
-  close-out e h r q = let k : length (d .connections) ≤ n = omega arith in rw (set-out (d .connections) n closed k) q
+  pub close-out : length (d .connections) ≡ 8 → 8 ≤ n → (r : Device) → r ≡ sweepOf d → _≡_ {A = Closed} (record { device = r; answer = NotOpen }) (closingOf d n)
+  unfolding closingOf closeOf
+  close-out e h r q =
+      let k : length (d .connections) ≤ n = omega arith in
+      rw (q, ← live-out (d .connections) n e h, set-out (d .connections) n closed k)
 
-  pub close-in : (r : Device) → r ≡ sweepOf (withConnections d (set (d .connections) n closed)) → r ≡ closeOf d n
-  unfolding closeOf
-  close-in r q = q
+  module _ (a : Connection) (l : length (d .connections) ≡ 8) (h : n < 8) (r : Device) (q : r ≡ sweepOf (withConnections d (set (d .connections) n closed))) where
+    pub close-not : not (getD (d .connections) n a .live) ≡ true → _≡_ {A = Closed} (record { device = r; answer = NotOpen }) (closingOf d n)
+    unfolding closingOf closeOf
+    close-not t = rw (q, ← live-in (d .connections) n a (omega arith), not-true (getD (d .connections) n a .live) t)
+
+    pub close-done : not (getD (d .connections) n a .live) ≡ false → _≡_ {A = Closed} (record { device = r; answer = Done }) (closingOf d n)
+    unfolding closingOf closeOf
+    close-done t = rw (q, ← live-in (d .connections) n a (omega arith), not-false (getD (d .connections) n a .live) t)
+
+-- what a close hands back
+pub close-device : (d : Device) (n : ℕ) (x : Closed) → x ≡ closingOf d n → x .device ≡ closeOf d n
+unfolding closingOf
+close-device d n x e = ap (λ (y : Closed). y .device) e
 
 -- ---- one entry changed
 module _ (d : Device) (at : ℕ) (l : length (d .subscriptions) ≡ 32) where
@@ -98,7 +114,7 @@ module _ (d : Device) (n : ℕ) (q : n ≡ lowestFree (d .connections)) (e : len
   open-done h = rw (any-index isNotOpen (d .connections), ← q, e, lt-ltb n 8 h)
 
 -- ---- sweeping
-pub swept-all : (d : Device) (ss : List Subscription) (hs : List ℕ) → ss ≡ map (sweptOf (d .connections)) (d .subscriptions) → hs ≡ map (sweptHolder (d .connections)) (d .holders) → _≡_ {A = Device} (record { reading = d .reading; connections = d .connections; subscriptions = ss; mutes = d .mutes; holders = hs; mechanism = d .mechanism }) (sweepOf d)
+pub swept-all : (d : Device) (ss : List Subscription) (hs : List ℕ) → ss ≡ map (sweptOf (d .connections)) (d .subscriptions) → hs ≡ map (sweptHolder (d .connections)) (d .holders) → withHolders (withSubscriptions d ss) hs ≡ sweepOf d
 unfolding sweepOf
 swept-all d ss hs p q = rw (p, q)
 
@@ -115,6 +131,6 @@ module _ (d : Device) (reading s : ℕ) (e : s ≡ stepOf reading (d .reading)) 
   unfolding tickStep
   tick-over b h q t = rw (← e, lt-leb _ _ h, ← q, not-true b t)
 
-  pub tick-done : (b : Bool) (m : ℕ) (cs : List Connection) (r : Device) → s < 2147483648 → b ≡ all (fitsStep s) (d .connections) → not b ≡ false → m ≡ mask (closesAt s) (d .connections) → cs ≡ map (connectionTicked s) (d .connections) → r ≡ sweepOf (advanced d reading cs) → _≡_ {A = Ticked} (record { device = r; answer = Closed m }) (tickOf d reading)
+  pub tick-done : (b : Bool) (m : ℕ) (cs : List Connection) (r : Device) → s < 2147483648 → b ≡ all (fitsStep s) (d .connections) → not b ≡ false → m ≡ mask (closesAt s) (d .connections) → cs ≡ map (connectionTicked s) (d .connections) → r ≡ sweepOf (advanced d reading cs) → _≡_ {A = Ticked} (record { device = r; answer = ticks.Closed m }) (tickOf d reading)
   unfolding tickStep
   tick-done b m cs r h q t em ec er = rw (← e, lt-leb _ _ h, ← q, not-false b t, em, er, ec)

@@ -8,9 +8,11 @@ use lib.ListN.{getD, set}
 use Rattle.laws.specs.Lists.{all}
 use Rattle.connection.specs.State.{closed, liveAt}
 use Rattle.connection.specs.Supervision.{fitsStep, closesAt}
-use Rattle.subscription.specs.State.{firstMute, free}
+use Rattle.subscription.specs.State.{free}
 use Rattle.subscription.specs.declared.Subscription.{Subscription}
-use Rattle.objects.specs.Methods.{lockMethod}
+use Rattle.numbers.specs.Status.{carriedOut}
+use Rattle.objects.specs.Methods.{firstMute, lockMethod}
+use Rattle.device.specs.Setters.{withConnections, withSubscriptions, withHolders}
 use Rattle.device.specs.State.{muteCount, closeOf}
 use Rattle.device.specs.Obeys.{deviceObeys}
 use Rattle.device.specs.Run.{runOf}
@@ -53,14 +55,19 @@ pub record Stays (n : ℕ) (d r : Device) : Type 0 where
 -- the closure in the paper's words: connection n's locks and entries freed, its counts cleared, the rest as it was
 unfoldable pub freedOf : Device → ℕ → Device
 freedOf d n =
-    record {
-      reading = d .reading;
-      connections = set (d .connections) n closed;
-      subscriptions = map (λ (s : Subscription). cond (isEntryOf n s) free s) (d .subscriptions);
-      mutes = d .mutes;
-      holders = map (λ (h : ℕ). cond (isLockOf n h) 0 h) (d .holders);
-      mechanism = d .mechanism;
-    }
+    withHolders
+    (withSubscriptions (withConnections d (set (d .connections) n closed))
+    (map (λ (s : Subscription). cond (isEntryOf n s) free s) (d .subscriptions)))
+    (map (λ (h : ℕ). cond (isLockOf n h) 0 h) (d .holders))
+
+-- a tick that is not refused
+pub record Passing (d : Device) (reading : ℕ) : Type 0 where
+  pub early : leb (2 ^ 31) (stepOf reading (d .reading)) ≡ false
+  pub fits : all (fitsStep (stepOf reading (d .reading))) (d .connections) ≡ true
+
+-- it closes connection n
+abbrev pub isExpiring : Device → ℕ → ℕ → Bool
+isExpiring d reading n = closesAt (stepOf reading (d .reading)) (getD (d .connections) n closed)
 
 pub record ClosureFrees : Type 0 where
   -- the host's close, or a fault's
@@ -69,8 +76,12 @@ pub record ClosureFrees : Type 0 where
   pub same : (d : Device) (n k : ℕ) → eqb k n ≡ false → getD (closeOf d n .connections) k closed ≡ getD (d .connections) k closed
   pub wording : (d : Device) (n : ℕ) → deviceObeys d ≡ true → closeOf d n ≡ freedOf d n
   -- a lock that the connection held can be taken
-  pub releasing : (d : Device) (n k at : ℕ) → at < muteCount → getD (d .holders) at 0 ≡ n + 1 → runOf (closeOf d n) k (firstMute + at) lockMethod 0 [] .answer .status ≡ 0
+  pub releasing : (d : Device) (n k at : ℕ) → at < muteCount → getD (d .holders) at 0 ≡ n + 1
+      → runOf (closeOf d n) k (firstMute + at) lockMethod 0 [] .answer .status ≡ carriedOut
   -- a tick that is not refused
-  pub ticking : (d : Device) (reading n : ℕ) → leb (2 ^ 31) (stepOf reading (d .reading)) ≡ false → all (fitsStep (stepOf reading (d .reading))) (d .connections) ≡ true → closesAt (stepOf reading (d .reading)) (getD (d .connections) n closed) ≡ true → Gone n d (tickOf d reading .device)
-  pub staying : (d : Device) (reading n : ℕ) → leb (2 ^ 31) (stepOf reading (d .reading)) ≡ false → all (fitsStep (stepOf reading (d .reading))) (d .connections) ≡ true → liveAt (d .connections) n ≡ true → closesAt (stepOf reading (d .reading)) (getD (d .connections) n closed) ≡ false → Stays n d (tickOf d reading .device)
-  pub expiring : (d : Device) (reading n k at : ℕ) → leb (2 ^ 31) (stepOf reading (d .reading)) ≡ false → all (fitsStep (stepOf reading (d .reading))) (d .connections) ≡ true → closesAt (stepOf reading (d .reading)) (getD (d .connections) n closed) ≡ true → at < muteCount → getD (d .holders) at 0 ≡ n + 1 → runOf (tickOf d reading .device) k (firstMute + at) lockMethod 0 [] .answer .status ≡ 0
+  pub ticking : (d : Device) (reading n : ℕ) → Passing d reading → isExpiring d reading n ≡ true → Gone n d (tickOf d reading .device)
+  pub staying : (d : Device) (reading n : ℕ) → Passing d reading → liveAt (d .connections) n ≡ true → isExpiring d reading n ≡ false
+      → Stays n d (tickOf d reading .device)
+  pub expiring : (d : Device) (reading n k at : ℕ) → Passing d reading → isExpiring d reading n ≡ true
+      → at < muteCount → getD (d .holders) at 0 ≡ n + 1
+      → runOf (tickOf d reading .device) k (firstMute + at) lockMethod 0 [] .answer .status ≡ carriedOut

@@ -9,6 +9,7 @@ use Rattle.heartbeat.specs.declared.Heartbeat.{Heartbeat}
 use Rattle.connection.specs.State.{liveAt}
 use Rattle.connection.specs.Supervision.{fitsStep}
 use Rattle.connection.specs.Kept.{fitsForm}
+use Rattle.numbers.specs.Status.{carriedOut}
 use Rattle.objects.specs.Answers.{failedOf}
 use Rattle.device.specs.State.{freshOf, openOf, closeOf, heardAt, sentAt, toldAt, beatingAt}
 use Rattle.device.specs.Obeys.{deviceObeys}
@@ -26,10 +27,13 @@ pub record RulesKept : Type 0 where
   pub sending : (d : Device) (n : ℕ) → deviceObeys d ≡ true → deviceObeys (sentAt d n) ≡ true
   pub telling : (d : Device) (at : ℕ) → deviceObeys d ≡ true → deviceObeys (toldAt d at) ≡ true
   pub beating : (d : Device) (n : ℕ) (h : Heartbeat) → fitsForm h ≡ true → deviceObeys d ≡ true → deviceObeys (beatingAt d n h) ≡ true
-  pub running : (d : Device) (n target m count : ℕ) (part : List ℕ) → liveAt (d .connections) n ≡ true → deviceObeys d ≡ true → deviceObeys (runOf d n target m count part .device) ≡ true
+  pub running : (d : Device) (n target m count : ℕ) (part : List ℕ) → liveAt (d .connections) n ≡ true → deviceObeys d ≡ true
+      → deviceObeys (runOf d n target m count part .device) ≡ true
   -- row 7 never applies to a record that obeys
-  pub fitting : (d : Device) (reading : ℕ) → deviceObeys d ≡ true → leb (2 ^ 31) (stepOf reading (d .reading)) ≡ false → all (fitsStep (stepOf reading (d .reading))) (d .connections) ≡ true
+  pub fitting : (d : Device) (reading : ℕ) → deviceObeys d ≡ true → leb (2 ^ 31) (stepOf reading (d .reading)) ≡ false
+      → all (fitsStep (stepOf reading (d .reading))) (d .connections) ≡ true
 
 -- "Statuses other than 0 carry no parameters and change nothing"
 pub record FailuresChangeNothing : Type 0 where
-  pub failing : (d : Device) (n target m count : ℕ) (part : List ℕ) → eqb (statusOf d n target m count part) 0 ≡ false → runOf d n target m count part ≡ unchanged d (failedOf (statusOf d n target m count part))
+  pub failing : (d : Device) (n target m count : ℕ) (part : List ℕ) → eqb (statusOf d n target m count part) carriedOut ≡ false
+      → runOf d n target m count part ≡ unchanged d (failedOf (statusOf d n target m count part))

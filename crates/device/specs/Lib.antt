@@ -1,3 +1,4 @@
+pub mod Setters
 pub mod State
 pub mod Obeys
 pub mod Time

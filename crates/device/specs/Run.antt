@@ -5,15 +5,16 @@ use mathlib.Core.List.{List, map}
 use lib.Dec.{eqb}
 use lib.ListN.{getD, set}
 use Rattle.laws.specs.Lists.{any}
+use Rattle.numbers.specs.Status.{heldByOther, strangeEmitter, badValue, outOfTurn, noFreeEntry, carriedOut}
 use Rattle.mechanism.specs.Arguments.{armedBy}
 use Rattle.subscription.specs.State.{free, isUnused, isTwin, twinAt, lowestUnused, markedOf}
-use Rattle.objects.specs.Methods.{lockMethod, unlockMethod, setMethod, addMethod, removeMethod, resetKeyMethod}
-use Rattle.objects.specs.Methods.{placeOf, isObject, isLocking, hasMethod}
-use Rattle.objects.specs.Tests.{isForbidden, isMalformed, subscriptionFrom, isEmitterBad, isValueBad}
+use Rattle.subscription.specs.Arguments.{subscriptionFrom, isEmitterBad}
+use Rattle.objects.specs.Methods.{lockMethod, unlockMethod, setMethod, addMethod, removeMethod, resetKeyMethod, placeOf, isLocking}
+use Rattle.objects.specs.Tests.{isValueBad, firstStatus}
 use Rattle.objects.specs.Answers.{replyOf, failedOf, answerWith}
 use Rattle.objects.specs.declared.Answer.{Answer}
 use Rattle.holders.specs.Holders.{ownerOf, isOther}
-use Rattle.device.specs.State.{withSubscriptions, withHolders, withMechanism}
+use Rattle.device.specs.Setters.{withSubscriptions, withMutes, withHolders, withMechanism}
 use Rattle.device.specs.declared.Device.{Device}
 use Rattle.device.specs.declared.Ran.{Ran}
 
@@ -35,38 +36,36 @@ isSubscribed d n part = any (isTwin (subscriptionFrom n part)) (d .subscriptions
 -- "9 unlock of an unheld mute, add of a subscription held, remove of one not held"
 unfoldable pub isOutOfTurn : Device → ℕ → ℕ → ℕ → List ℕ → Bool
 isOutOfTurn d n target m part =
-    (eqb m unlockMethod && eqb (holderAt d target) 0) || (eqb m addMethod && isSubscribed d n part) || (eqb m removeMethod && not (isSubscribed d n part))
+    (eqb m unlockMethod && eqb (holderAt d target) 0) || (eqb m addMethod && isSubscribed d n part)
+    || (eqb m removeMethod && not (isSubscribed d n part))
 
 -- "10 no free entry"
 unfoldable pub isFull : Device → ℕ → Bool
 isFull d m = eqb m addMethod && not (any isUnused (d .subscriptions))
 
+-- the first that applies of those that need the device
+unfoldable pub laterStatus : Device → ℕ → ℕ → ℕ → List ℕ → ℕ
+laterStatus d n target m part =
+    cond (isHeldByOther d n target m) heldByOther
+    (cond (isEmitterBad m part) strangeEmitter
+    (cond (isValueBad m part) badValue
+    (cond (isOutOfTurn d n target m part) outOfTurn
+    (cond (isFull d m) noFreeEntry
+    carriedOut))))
+
+-- the first of two statuses, and the second where the first stops nothing
+abbrev pub firstFailing : ℕ → ℕ → ℕ
+firstFailing first later = cond (eqb first carriedOut) later first
+
 -- "Status, the first that applies"
 unfoldable pub statusOf : Device → ℕ → ℕ → ℕ → ℕ → List ℕ → ℕ
-statusOf d n target m count part =
-    cond (not (isObject target)) 5
-    (cond (not (hasMethod target m)) 11
-    (cond (isForbidden target m) 8
-    (cond (isMalformed m count part) 4
-    (cond (isHeldByOther d n target m) 3
-    (cond (isEmitterBad m part) 6
-    (cond (isValueBad m part) 7
-    (cond (isOutOfTurn d n target m part) 9
-    (cond (isFull d m) 10
-    0))))))))
+statusOf d n target m count part = firstFailing (firstStatus target m count part) (laterStatus d n target m part)
 
 -- "A set that changes a mute marks every subscription to it as waiting"
 unfoldable pub mutedOf : Device → ℕ → ℕ → Device
 mutedOf d target v =
     cond (eqb (muteAt d target) v) d
-    (record {
-      reading = d .reading;
-      connections = d .connections;
-      subscriptions = map (markedOf target) (d .subscriptions);
-      mutes = set (d .mutes) (placeOf target) v;
-      holders = d .holders;
-      mechanism = d .mechanism;
-    })
+    (withMutes (withSubscriptions d (map (markedOf target) (d .subscriptions))) (set (d .mutes) (placeOf target) v))
 
 -- what a command with status 0 does; "it gets the lowest free entry"; document 02 (ii), "The latest key counts"
 unfoldable pub doneOf : Device → ℕ → ℕ → ℕ → List ℕ → Device
@@ -89,7 +88,7 @@ unchanged d answer = record { device = d; answer = answer }
 -- "Statuses other than 0 carry no parameters and change nothing"
 unfoldable pub ranBy : Device → ℕ → ℕ → ℕ → List ℕ → ℕ → Ran
 ranBy d n target m part status =
-    cond (eqb status 0)
+    cond (eqb status carriedOut)
     (record { device = doneOf d n target m part; answer = answerOf d target m })
     (unchanged d (failedOf status))
 

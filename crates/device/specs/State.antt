@@ -9,14 +9,15 @@ use Rattle.connection.specs.State.{connectionCount, closed, opened, liveAt, isL
 use Rattle.connection.specs.Supervision.{heardOf, sentOf, beatingOf}
 use Rattle.connection.specs.declared.Connection.{Connection}
 use Rattle.mechanism.specs.State.{disarmed}
-use Rattle.mechanism.specs.declared.Mechanism.{Mechanism}
 use Rattle.subscription.specs.State.{entryCount, free, toldOf, sweptOf}
-use Rattle.subscription.specs.declared.Subscription.{Subscription}
 use Rattle.objects.specs.Tests.{unmuted}
 use Rattle.holders.specs.Holders.{sweptHolder}
+use Rattle.device.specs.Setters.{withConnections, withSubscriptions, withHolders}
 use Rattle.device.specs.declared.Device.{Device}
 use Rattle.device.specs.declared.Opened.{Opened}
 use Rattle.device.specs.declared.Opening.the-variants.{Number, Full}
+use Rattle.device.specs.declared.Closed.{Closed}
+use Rattle.device.specs.declared.Closing.the-variants.{Done, NotOpen}
 
 -- "8 mutes"
 abbrev pub muteCount : ℕ
@@ -32,51 +33,6 @@ freshOf reading =
       mutes = replicate muteCount unmuted;
       holders = replicate muteCount 0;
       mechanism = disarmed;
-    }
-
--- a device with one part changed
-abbrev pub withConnections : Device → List Connection → Device
-withConnections d cs =
-    record {
-      reading = d .reading;
-      connections = cs;
-      subscriptions = d .subscriptions;
-      mutes = d .mutes;
-      holders = d .holders;
-      mechanism = d .mechanism;
-    }
-
-abbrev pub withSubscriptions : Device → List Subscription → Device
-withSubscriptions d ss =
-    record {
-      reading = d .reading;
-      connections = d .connections;
-      subscriptions = ss;
-      mutes = d .mutes;
-      holders = d .holders;
-      mechanism = d .mechanism;
-    }
-
-abbrev pub withHolders : Device → List ℕ → Device
-withHolders d hs =
-    record {
-      reading = d .reading;
-      connections = d .connections;
-      subscriptions = d .subscriptions;
-      mutes = d .mutes;
-      holders = hs;
-      mechanism = d .mechanism;
-    }
-
-abbrev pub withMechanism : Device → Mechanism → Device
-withMechanism d m =
-    record {
-      reading = d .reading;
-      connections = d .connections;
-      subscriptions = d .subscriptions;
-      mutes = d .mutes;
-      holders = d .holders;
-      mechanism = m;
     }
 
 -- of each connection, whether it is open
@@ -96,18 +52,16 @@ openOf d =
 -- whatever belongs to a connection that is not open is freed
 unfoldable pub sweepOf : Device → Device
 sweepOf d =
-    record {
-      reading = d .reading;
-      connections = d .connections;
-      subscriptions = map (sweptOf (d .connections)) (d .subscriptions);
-      mutes = d .mutes;
-      holders = map (sweptHolder (d .connections)) (d .holders);
-      mechanism = d .mechanism;
-    }
+    withHolders (withSubscriptions d (map (sweptOf (d .connections)) (d .subscriptions)))
+    (map (sweptHolder (d .connections)) (d .holders))
 
 -- "A closure frees the connection's locks, entries and waiting marks, clears its counts"
 unfoldable pub closeOf : Device → ℕ → Device
 closeOf d n = sweepOf (withConnections d (set (d .connections) n closed))
+
+-- the device closed, and whether there was a connection to close
+unfoldable pub closingOf : Device → ℕ → Closed
+closingOf d n = record { device = closeOf d n; answer = cond (liveAt (d .connections) n) Done NotOpen }
 
 -- connection n changed by f; a number past the last changes nothing
 abbrev pub atConnection : (Connection → Connection) → Device → ℕ → Device

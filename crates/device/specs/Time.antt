@@ -6,6 +6,7 @@ use lib.Dec.{leb}
 use Rattle.laws.specs.Lists.{all, mask}
 use Rattle.connection.specs.Supervision.{fitsStep, closesAt, connectionTicked}
 use Rattle.connection.specs.declared.Connection.{Connection}
+use Rattle.device.specs.Setters.{withReading, withConnections}
 use Rattle.device.specs.State.{sweepOf}
 use Rattle.device.specs.declared.Device.{Device}
 use Rattle.device.specs.declared.Ticked.{Ticked}
@@ -17,15 +18,7 @@ stepOf reading last = (reading + 2 ^ 32 - last) % 2 ^ 32
 
 -- the device at a reading, with these connections
 abbrev pub advanced : Device → ℕ → List Connection → Device
-advanced d reading cs =
-    record {
-      reading = reading;
-      connections = cs;
-      subscriptions = d .subscriptions;
-      mutes = d .mutes;
-      holders = d .holders;
-      mechanism = d .mechanism;
-    }
+advanced d reading cs = withConnections (withReading d reading) cs
 
 -- "6 ClockBack: step of 2^31 or more", "7 Overrun: silence or quiet plus step does not fit 64 bits";
 -- "The tick's answer is a byte, bit n set for connection n closed"

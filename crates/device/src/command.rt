@@ -7,8 +7,8 @@ ghost use mathlib.Core.Path.{_≡_};
 ghost use mathlib.Core.Bool.{true, false};
 ghost use mathlib.Core.List.{[], _∷_};
 ghost use Prim.Native.Nat.{_+_, _<_, ℕ};
-ghost use Rattle.subscription.specs.State.{firstMute};
-ghost use Rattle.objects.specs.Methods.{methodNumber, deviceManager, subscriptionManager, lockMethod, unlockMethod, getMethod, setMethod, addMethod, removeMethod, resetKeyMethod, isTelling};
+ghost use Rattle.objects.specs.Methods.{firstMute, methodNumber, deviceManager, subscriptionManager, isTelling};
+ghost use Rattle.objects.specs.Methods.{lockMethod, unlockMethod, getMethod, setMethod, addMethod, removeMethod, resetKeyMethod};
 ghost use Rattle.objects.specs.Tests.{isMalformed};
 ghost use Rattle.device.specs.Run.{answerOf, unchanged, runOf};
 ghost use Rattle.device.specs.declared.Device.{Device};
@@ -21,7 +21,7 @@ fn told(target: u32, m: u32) -> Answer
     if m == objects::CLASS {
         return Answer::class(target);
     }
-    if subscription::is_mute(target) {
+    if objects::is_mute(target) {
         return Answer::byte(1);
     }
     Answer::byte(0)
@@ -47,7 +47,7 @@ impl Device {
         if holders::is_other(holder, n) {
             return Ran {
                 device: self,
-                answer: Answer::failed(objects::HELD_BY_OTHER),
+                answer: Answer::failed(numbers::HELD_BY_OTHER),
             };
         }
         self.holders[at] = holders::owner(n);
@@ -65,13 +65,13 @@ impl Device {
         if holders::is_other(holder, n) {
             return Ran {
                 device: self,
-                answer: Answer::failed(objects::HELD_BY_OTHER),
+                answer: Answer::failed(numbers::HELD_BY_OTHER),
             };
         }
         if holder == 0 {
             return Ran {
                 device: self,
-                answer: Answer::failed(objects::OUT_OF_TURN),
+                answer: Answer::failed(numbers::OUT_OF_TURN),
             };
         }
         self.holders[at] = 0;
@@ -90,13 +90,13 @@ impl Device {
         if holders::is_other(holder, n) {
             return Ran {
                 device: self,
-                answer: Answer::failed(objects::HELD_BY_OTHER),
+                answer: Answer::failed(numbers::HELD_BY_OTHER),
             };
         }
         if !objects::is_mute_value(v) {
             return Ran {
                 device: self,
-                answer: Answer::failed(objects::BAD_VALUE),
+                answer: Answer::failed(numbers::BAD_VALUE),
             };
         }
         let value = self.mutes[at];
@@ -108,7 +108,7 @@ impl Device {
         }
         self.mutes[at] = v;
         let entries = self.subscriptions;
-        let marked = subscription::all_marked(entries, subscription::FIRST_MUTE + at as u32);
+        let marked = subscription::all_marked(entries, objects::FIRST_MUTE + at as u32);
         self.subscriptions = marked;
         Ran {
             device: self,
@@ -120,31 +120,31 @@ impl Device {
         requires { ⌜ isMalformed addMethod 5 (now part) ≡ false ⌝ }
         ensures { λ r. ⌜ r ≡ runOf self n subscriptionManager addMethod 5 (now (part .entry)) ⌝ }
     {
-        if objects::is_strange(part) {
+        if subscription::is_strange(part) {
             return Ran {
                 device: self,
-                answer: Answer::failed(objects::STRANGE),
+                answer: Answer::failed(numbers::STRANGE_EMITTER),
             };
         }
         if part[20] != 1 {
             return Ran {
                 device: self,
-                answer: Answer::failed(objects::BAD_VALUE),
+                answer: Answer::failed(numbers::BAD_VALUE),
             };
         }
-        let e = objects::entry(n, part, octets::be32(part, 16));
+        let e = subscription::entry(n, part, octets::be32(part, 16));
         let entries = self.subscriptions;
         if subscription::twin_at(entries, e) < subscription::ENTRIES {
             return Ran {
                 device: self,
-                answer: Answer::failed(objects::OUT_OF_TURN),
+                answer: Answer::failed(numbers::OUT_OF_TURN),
             };
         }
         let room = subscription::lowest_unused(entries);
         if room >= subscription::ENTRIES {
             return Ran {
                 device: self,
-                answer: Answer::failed(objects::NO_ENTRY),
+                answer: Answer::failed(numbers::NO_FREE_ENTRY),
             };
         }
         self.subscriptions[room] = e;
@@ -158,19 +158,19 @@ impl Device {
         requires { ⌜ isMalformed removeMethod 2 (now part) ≡ false ⌝ }
         ensures { λ r. ⌜ r ≡ runOf self n subscriptionManager removeMethod 2 (now (part .entry)) ⌝ }
     {
-        if objects::is_strange(part) {
+        if subscription::is_strange(part) {
             return Ran {
                 device: self,
-                answer: Answer::failed(objects::STRANGE),
+                answer: Answer::failed(numbers::STRANGE_EMITTER),
             };
         }
-        let e = objects::entry(n, part, 0);
+        let e = subscription::entry(n, part, 0);
         let entries = self.subscriptions;
         let twin = subscription::twin_at(entries, e);
         if twin >= subscription::ENTRIES {
             return Ran {
                 device: self,
-                answer: Answer::failed(objects::OUT_OF_TURN),
+                answer: Answer::failed(numbers::OUT_OF_TURN),
             };
         }
         self.subscriptions[twin] = Subscription::FREE;
@@ -189,7 +189,7 @@ impl Device {
         if !armed.taken {
             return Ran {
                 device: self,
-                answer: Answer::failed(objects::BAD_VALUE),
+                answer: Answer::failed(numbers::BAD_VALUE),
             };
         }
         let mechanism = armed.mechanism;
@@ -206,7 +206,7 @@ impl Device {
     {
         let m = objects::method(level, index);
         let status = objects::first_status(target, m, count, part);
-        if status != 0 {
+        if status != numbers::CARRIED_OUT {
             return Ran {
                 device: self,
                 answer: Answer::failed(status),

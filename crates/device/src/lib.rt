@@ -5,7 +5,7 @@ use mechanism::Mechanism;
 use objects::Answer;
 use subscription::Subscription;
 ghost use mathlib.Core.Path.{_≡_};
-ghost use Rattle.device.specs.State.{freshOf, openOf, sweepOf, closeOf, heardAt, sentAt, toldAt, beatingAt};
+ghost use Rattle.device.specs.State.{freshOf, openOf, sweepOf, closingOf, heardAt, sentAt, toldAt, beatingAt};
 ghost use Rattle.device.specs.Obeys.{deviceObeys};
 ghost use Rattle.device.specs.Kept.{RulesKept, FailuresChangeNothing};
 ghost use Rattle.device.specs.Closure.{ClosureFrees};
@@ -34,6 +34,16 @@ pub enum Opening {
 pub struct Opened {
     pub device: Device,
     pub answer: Opening,
+}
+
+pub enum Closing {
+    Done,
+    NotOpen,
+}
+
+pub struct Closed {
+    pub device: Device,
+    pub answer: Closing,
 }
 
 pub enum Ticking {
@@ -129,15 +139,31 @@ impl Device {
         self
     }
 
-    pub fn close(mut self, n: u8) -> Device
-        ensures { λ r. ⌜ r ≡ closeOf self n ⌝ }
+    // Whatever is said of it, connection n is not open afterwards, and nothing of it is left.
+    pub fn close(mut self, n: u8) -> Closed
+        ensures { λ r. ⌜ r ≡ closingOf self n ⌝ }
     {
         let at = n as usize;
         if at >= connection::CONNECTIONS {
-            return self.swept();
+            let device = self.swept();
+            return Closed {
+                device,
+                answer: Closing::NotOpen,
+            };
         }
+        let c = self.connections[at];
         self.connections[at] = Connection::CLOSED;
-        self.swept()
+        let device = self.swept();
+        if !c.live {
+            return Closed {
+                device,
+                answer: Closing::NotOpen,
+            };
+        }
+        Closed {
+            device,
+            answer: Closing::Done,
+        }
     }
 
     // Time passes, to `reading`.

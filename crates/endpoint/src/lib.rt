@@ -139,7 +139,8 @@ impl Record {
     {
         let at = n as usize;
         let device = self.device;
-        let next = device.close(n);
+        let closed = device.close(n);
+        let next = closed.device;
         self.device = next;
         self.held[at] = 0;
         self

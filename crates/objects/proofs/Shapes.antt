@@ -10,10 +10,10 @@ use lib.ListN.{length, getD}
 use Rattle.laws.proofs.Conds.{cond-right, and-left, and-right}
 use Rattle.laws.proofs.Tables.{or-neither}
 use Rattle.mechanism.specs.Arguments.{isMisfit}
-use Rattle.subscription.specs.State.{isMute}
-use Rattle.objects.specs.Methods.{resetKeyMethod, placeOf, isObject, hasMethod}
+use Rattle.objects.specs.Methods.{isMute, resetKeyMethod, placeOf, isObject, hasMethod}
 use Rattle.objects.specs.Answers.{classOf, identificationOf, answerWith}
-use Rattle.objects.specs.Tests.{isForbidden, countOf, lengthOf, isLengthBad, isPairBad, isMalformed, firstStatus, Allowed}
+use Rattle.objects.specs.Tests.{isForbidden, countOf, lengthOf, isLengthBad, isPairBad, isMalformed, firstStatus}
+use Rattle.objects.specs.Scaffold.{Allowed}
 
 -- ---- a mute
 pub record MuteAt (target : ℕ) : Type 0 where

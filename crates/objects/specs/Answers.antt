@@ -1,25 +1,23 @@
 -- The reply parameters of a command: document 01 'Our objects'.
-use Prim.Native.Nat.{ℕ, _/_, _%_}
+use Prim.Native.Nat.{ℕ}
 use mathlib.Core.Bool.{cond}
 use mathlib.Core.List.{List, [], _∷_, _++_}
 use lib.Dec.{eqb}
 use lib.ListN.{length, replicate}
 use lib.Seq.{sets}
-use Rattle.subscription.specs.State.{isMute}
-use Rattle.objects.specs.Methods.{deviceManager, classMethod, lockableMethod, getMethod}
+use Rattle.numbers.specs.Status.{carriedOut}
+use Rattle.octets.specs.Numbers.{bytes16}
+use Rattle.objects.specs.Methods.{deviceManager, isMute, classMethod, lockableMethod, getMethod}
 use Rattle.objects.specs.declared.Answer.{Answer}
 
 -- the most bytes that a command's reply parameters have
 abbrev pub replyRoom : ℕ
 replyRoom = 12
 
--- a number in 2 bytes
-abbrev pub twoBytes : ℕ → List ℕ
-twoBytes n = n / 256 ∷ n % 256 ∷ []
-
-abbrev pub twoBytesEach : List ℕ → List ℕ
-twoBytesEach [] = []
-twoBytesEach (x ∷ xs) = twoBytes x ++ twoBytesEach xs
+-- "fields 2 each"
+abbrev pub fieldBytes : List ℕ → List ℕ
+fieldBytes [] = []
+fieldBytes (x ∷ xs) = bytes16 x ++ fieldBytes xs
 
 -- "device manager, class 1.3.1", "subscription manager, class 1.3.4", "mutes, class 1.1.1.2"
 unfoldable pub classOf : ℕ → List ℕ
@@ -31,7 +29,7 @@ classVersion = 1
 
 -- "field count 2, fields 2 each, version 2"
 unfoldable pub identificationOf : List ℕ → List ℕ
-identificationOf fields = twoBytes (length fields) ++ twoBytesEach fields ++ twoBytes classVersion
+identificationOf fields = bytes16 (length fields) ++ fieldBytes fields ++ bytes16 classVersion
 
 -- the parameters of a reply with status 0; `value` is the mute's
 unfoldable pub replyOf : ℕ → ℕ → ℕ → List ℕ
@@ -48,7 +46,7 @@ failedOf status = record { status = status; count = 0; length = 0; bytes = repli
 unfoldable pub answerWith : List ℕ → Answer
 answerWith bytes =
     record {
-      status = 0;
+      status = carriedOut;
       count = cond (eqb (length bytes) 0) 0 1;
       length = length bytes;
       bytes = sets (replicate replyRoom 0) 0 bytes;

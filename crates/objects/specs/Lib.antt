@@ -1,3 +1,4 @@
 pub mod Methods
 pub mod Tests
 pub mod Answers
+pub mod Scaffold

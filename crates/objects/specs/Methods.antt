@@ -1,9 +1,7 @@
 -- The objects and their methods: document 01 'Our objects'.
-use Prim.Native.Nat.{ℕ, _+_, _*_, _-_, _<_}
-use mathlib.Core.Path.{_≡_}
+use Prim.Native.Nat.{ℕ, _+_, _*_, _-_}
 use mathlib.Core.Bool.{Bool, _&&_, _||_}
-use lib.Dec.{eqb}
-use Rattle.subscription.specs.State.{firstMute, isMute}
+use lib.Dec.{eqb, leb}
 
 -- "Object 1, device manager", "object 4, subscription manager"
 abbrev pub deviceManager : ℕ
@@ -12,13 +10,19 @@ deviceManager = 1
 abbrev pub subscriptionManager : ℕ
 subscriptionManager = 4
 
+-- "objects 4097 to 4104, mutes"
+abbrev pub firstMute : ℕ
+firstMute = 4097
+
+abbrev pub lastMute : ℕ
+lastMute = 4104
+
+unfoldable pub isMute : ℕ → Bool
+isMute object = leb firstMute object && leb object lastMute
+
 -- "A method or event is level 2, index 2", as one number
 abbrev pub methodNumber : ℕ → ℕ → ℕ
 methodNumber level index = level * 65536 + index
-
--- the numbers of two methods differ where their levels or indexes do
-pub record MethodsApart : Type 0 where
-  pub told : (a i b j : ℕ) → i < 65536 → j < 65536 → methodNumber a i ≡ methodNumber b j → (a ≡ b) × (i ≡ j)
 
 -- "All: 1.1 class identification, 1.2 lockable, 1.3 lock, 1.4 unlock"
 abbrev pub classMethod : ℕ
@@ -51,6 +55,14 @@ removeMethod = methodNumber 3 2
 abbrev pub resetKeyMethod : ℕ
 resetKeyMethod = methodNumber 3 14
 
+-- "event 1.1"
+abbrev pub changeEvent : ℕ
+changeEvent = methodNumber 1 1
+
+-- "property 4.1"
+abbrev pub muteProperty : ℕ
+muteProperty = methodNumber 4 1
+
 -- a mute's place among the eight
 unfoldable pub placeOf : ℕ → ℕ
 placeOf target = target - firstMute
@@ -76,4 +88,5 @@ isSubscribing m = eqb m addMethod || eqb m removeMethod
 -- the methods of an object
 unfoldable pub hasMethod : ℕ → ℕ → Bool
 hasMethod target m =
-    isTelling m || isLocking m || (isMuting m && isMute target) || (isSubscribing m && eqb target subscriptionManager) || (eqb m resetKeyMethod && eqb target deviceManager)
+    isTelling m || isLocking m || (isMuting m && isMute target) || (isSubscribing m && eqb target subscriptionManager)
+    || (eqb m resetKeyMethod && eqb target deviceManager)

@@ -1,15 +1,13 @@
 // The objects and their methods: which there are, what arguments they take, and what a reply carries.
-use subscription::Subscription;
 ghost use mathlib.Core.Path.{_≡_};
-ghost use mathlib.Core.Bool.{true, false};
+ghost use mathlib.Core.Bool.{true};
 ghost use mathlib.Core.List.{[], _∷_};
-ghost use Prim.Native.Nat.{_<_, _≤_};
-ghost use lib.ListN.{length};
+ghost use Prim.Native.Nat.{_<_};
 ghost use Rattle.laws.specs.Lists.{all};
-ghost use Rattle.subscription.specs.State.{isMute};
-ghost use Rattle.objects.specs.Methods.{MethodsApart, methodNumber, placeOf, isManager, isObject, isTelling, isLocking, hasMethod};
-ghost use Rattle.objects.specs.Tests.{isForbidden, countOf, lengthOf, isMalformed, firstStatus, subscriptionFrom, withContext, isStrange, isMuteValue};
+ghost use Rattle.objects.specs.Methods.{isMute, methodNumber, placeOf, isManager, isObject, isTelling, isLocking, hasMethod};
+ghost use Rattle.objects.specs.Tests.{isForbidden, countOf, lengthOf, isMalformed, firstStatus, isMuteValue};
 ghost use Rattle.objects.specs.Answers.{classOf, identificationOf, failedOf, answerWith};
+ghost use Rattle.objects.specs.Scaffold.{MethodsApart};
 
 pub const MUTES: usize = 8;
 
@@ -17,47 +15,41 @@ pub const DEVICE_MANAGER: u32 = 1;
 
 pub const SUBSCRIPTION_MANAGER: u32 = 4;
 
-// Methods, as level x 65,536 + index: 1.1, 1.2, 1.3, 1.4, 3.1, 3.2, 3.14, 4.1, 4.2.
-pub const CLASS: u32 = 65537;
+pub const FIRST_MUTE: u32 = 4097;
 
-pub const LOCKABLE: u32 = 65538;
+pub const LAST_MUTE: u32 = 4104;
 
-pub const LOCK: u32 = 65539;
+// A method, event or property is level x 65,536 + index.
+const LEVEL: u32 = 65536;
 
-pub const UNLOCK: u32 = 65540;
+// Methods 1.1, 1.2, 1.3, 1.4, 3.1, 3.2, 3.14, 4.1, 4.2.
+pub const CLASS: u32 = LEVEL + 1;
 
-pub const ADD: u32 = 196609;
+pub const LOCKABLE: u32 = LEVEL + 2;
 
-pub const REMOVE: u32 = 196610;
+pub const LOCK: u32 = LEVEL + 3;
 
-pub const RESET_KEY: u32 = 196622;
+pub const UNLOCK: u32 = LEVEL + 4;
 
-pub const GET: u32 = 262145;
+pub const ADD: u32 = 3 * LEVEL + 1;
 
-pub const SET: u32 = 262146;
+pub const REMOVE: u32 = 3 * LEVEL + 2;
+
+pub const RESET_KEY: u32 = 3 * LEVEL + 14;
+
+pub const GET: u32 = 4 * LEVEL + 1;
+
+pub const SET: u32 = 4 * LEVEL + 2;
+
+// Event 1.1.
+pub const CHANGE_EVENT: u32 = LEVEL + 1;
+
+// Property 4.1.
+pub const MUTE_PROPERTY: u32 = 4 * LEVEL + 1;
 
 pub const MUTED: u8 = 1;
 
 pub const UNMUTED: u8 = 2;
-
-// Statuses, in the order in which they are tested.
-pub const NO_OBJECT: u8 = 5;
-
-pub const NO_METHOD: u8 = 11;
-
-pub const FORBIDDEN: u8 = 8;
-
-pub const MALFORMED: u8 = 4;
-
-pub const HELD_BY_OTHER: u8 = 3;
-
-pub const STRANGE: u8 = 6;
-
-pub const BAD_VALUE: u8 = 7;
-
-pub const OUT_OF_TURN: u8 = 9;
-
-pub const NO_ENTRY: u8 = 10;
 
 // What a reply carries: numbers alone, so that it can be handed to a host in another language.
 pub struct Answer {
@@ -70,7 +62,13 @@ pub struct Answer {
 pub fn method(level: u16, index: u16) -> u32
     ensures { λ r. ⌜ r ≡ methodNumber level index ⌝ }
 {
-    (level as u32) * 65536 + (index as u32)
+    (level as u32) * LEVEL + (index as u32)
+}
+
+pub fn is_mute(object: u32) -> bool
+    ensures { λ r. ⌜ r ≡ isMute object ⌝ }
+{
+    (FIRST_MUTE <= object) & (object <= LAST_MUTE)
 }
 
 // A mute's place among the eight.
@@ -78,7 +76,7 @@ pub fn place(target: u32) -> usize
     requires { ⌜ isMute target ≡ true ⌝ }
     ensures { λ r. ⌜ (r ≡ placeOf target) × (r < 8) ⌝ }
 {
-    (target - subscription::FIRST_MUTE) as usize
+    (target - FIRST_MUTE) as usize
 }
 
 fn is_manager(target: u32) -> bool
@@ -91,7 +89,7 @@ pub fn is_object(target: u32) -> bool
     ensures { λ r. ⌜ r ≡ isObject target ⌝ }
 {
     let manager = is_manager(target);
-    let mute = subscription::is_mute(target);
+    let mute = is_mute(target);
     manager | mute
 }
 
@@ -112,7 +110,7 @@ pub fn has_method(target: u32, m: u32) -> bool
 {
     let telling = is_telling(m);
     let locking = is_locking(m);
-    let mute = subscription::is_mute(target);
+    let mute = is_mute(target);
     telling
         | locking
         | (((m == GET) | (m == SET)) & mute)
@@ -179,54 +177,23 @@ pub fn is_malformed(m: u32, count: u8, part: &[u8]) -> bool
     !((part[21] == 0) & (part[22] == 0))
 }
 
-// The first of the statuses 5, 11, 8 and 4 that applies, or 0: what is known before the device is looked at.
+// The first status that applies of those that are known before the device is looked at.
 pub fn first_status(target: u32, m: u32, count: u8, part: &[u8]) -> u8
     ensures { λ r. ⌜ r ≡ firstStatus target m count (now (part .entry)) ⌝ }
 {
     if !is_object(target) {
-        return NO_OBJECT;
+        return numbers::NO_OBJECT;
     }
     if !has_method(target, m) {
-        return NO_METHOD;
+        return numbers::NO_METHOD;
     }
     if is_forbidden(target, m) {
-        return FORBIDDEN;
+        return numbers::FORBIDDEN;
     }
     if is_malformed(m, count, part) {
-        return MALFORMED;
+        return numbers::MALFORMED;
     }
-    0
-}
-
-// The arguments of add and remove; remove has no context.
-pub fn entry(n: u8, part: &[u8], context: u32) -> Subscription
-    requires { ⌜ 16 ≤ length (now part) ⌝ }
-    ensures { λ r. ⌜ r ≡ withContext (subscriptionFrom n (now (part .entry))) context ⌝ }
-{
-    let emitter = octets::be32(part, 0);
-    let event = octets::be32(part, 4);
-    let object = octets::be32(part, 8);
-    let method = octets::be32(part, 12);
-    Subscription {
-        used: true,
-        waiting: false,
-        connection: n,
-        emitter,
-        event,
-        object,
-        method,
-        context,
-    }
-}
-
-pub fn is_strange(part: &[u8]) -> bool
-    requires { ⌜ 8 ≤ length (now part) ⌝ }
-    ensures { λ r. ⌜ r ≡ isStrange (now (part .entry)) ⌝ }
-{
-    let emitter = octets::be32(part, 0);
-    let event = octets::be32(part, 4);
-    let mute = subscription::is_mute(emitter);
-    !(mute & (event == subscription::CHANGE_EVENT))
+    numbers::CARRIED_OUT
 }
 
 pub fn is_mute_value(v: u8) -> bool
@@ -271,7 +238,7 @@ impl Answer {
     {
         let bytes = [0u8; 12];
         Answer {
-            status: 0,
+            status: numbers::CARRIED_OUT,
             count: 0,
             length: 0,
             bytes,
@@ -284,7 +251,7 @@ impl Answer {
         let mut bytes = [0u8; 12];
         bytes[0] = v;
         Answer {
-            status: 0,
+            status: numbers::CARRIED_OUT,
             count: 1,
             length: 1,
             bytes,
@@ -295,10 +262,10 @@ impl Answer {
     pub fn class(target: u32) -> Answer
         ensures { λ r. ⌜ r ≡ answerWith (identificationOf (classOf target)) ⌝ }
     {
-        if subscription::is_mute(target) {
+        if is_mute(target) {
             let bytes = [0u8, 4, 0, 1, 0, 1, 0, 1, 0, 2, 0, 1];
             return Answer {
-                status: 0,
+                status: numbers::CARRIED_OUT,
                 count: 1,
                 length: 12,
                 bytes,
@@ -309,7 +276,7 @@ impl Answer {
             bytes[7] = 1;
         }
         Answer {
-            status: 0,
+            status: numbers::CARRIED_OUT,
             count: 1,
             length: 10,
             bytes,

@@ -27,8 +27,9 @@ use Rattle.subscription.specs.declared.Subscription.{Subscription}
 use Rattle.subscription.proofs.Keeps as entries
 use Rattle.subscription.proofs.Keeps.{entry-view, free-unused}
 use Rattle.holders.specs.Holders.{holderObeys}
-use Rattle.device.specs.State.{withConnections, openOf, sweepOf, closeOf, livesIn}
+use Rattle.device.specs.State.{openOf, sweepOf, closeOf, livesIn}
 use Rattle.device.specs.Obeys.{deviceObeys}
+use Rattle.device.specs.Setters.{withConnections}
 use Rattle.device.specs.Time.{tickOf}
 use Rattle.device.specs.Closure.{isLockOf, isEntryOf, locksOf, subscriptionsOf, noLocks, noEntries, Gone, Stays}
 use Rattle.device.specs.declared.Device.{Device}
@@ -233,7 +234,7 @@ module _ (r : Record) (area : List ℕ) (w : Kept r area) where
     tick-left n b =
         let l = bit-low n b in
         let c = sym (bit-tells n l) ∙ b in
-        let g = closure-frees .ticking (r .device) reading n (t .timely .early) (t .timely .fits) c in
+        let g = closure-frees .ticking (r .device) reading n (t .timely) c in
         let e = tickOf (r .device) reading .device in
         rw (t .given)
         (left-in e (only (open? e) (heldIn r area)) (heldKept (livesIn e) (r .held)) (closedCleared (livesIn e) area) only-into n l g
@@ -244,7 +245,7 @@ module _ (r : Record) (area : List ℕ) (w : Kept r area) where
     unfolding tickedBy only
     tick-others k b v =
         let l = low k v in
-        let g = closure-frees .staying (r .device) reading k (t .timely .early) (t .timely .fits) v (sym (bit-tells k l) ∙ b) in
+        let g = closure-frees .staying (r .device) reading k (t .timely) v (sym (bit-tells k l) ∙ b) in
         let e = tickOf (r .device) reading .device in
         rw (t .given)
         (unmoved-in e (only (open? e) (heldIn r area)) (heldKept (livesIn e) (r .held)) (closedCleared (livesIn e) area) only-into k l g

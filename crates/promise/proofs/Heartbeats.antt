@@ -19,8 +19,9 @@ use Rattle.frame.specs.declared.Decision.the-variants.{Sound}
 use Rattle.area.specs.Area.{heldObeys}
 use Rattle.connection.specs.State.{closed, liveAt, isDue, lowestDue}
 use Rattle.connection.specs.Obeys.{isClosed, isIdle, formObeys, isTimed, connectionObeys}
-use Rattle.connection.specs.Supervision.{closesAt, counted, quietAfter, connectionTicked, heardOf, sentOf, heartbeatKept}
+use Rattle.connection.specs.Supervision.{closesAt, quietAfter, connectionTicked, heardOf, sentOf, heartbeatKept}
 use Rattle.connection.specs.declared.Connection.{Connection}
+use Rattle.connection.specs.Setters.{counted}
 use Rattle.connection.proofs.Keeps.{supervision-kept}
 use Rattle.subscription.specs.State.{isWaiting, toldOf, lowestWaiting}
 use Rattle.subscription.specs.declared.Subscription.{Subscription}

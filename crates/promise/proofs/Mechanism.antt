@@ -21,13 +21,15 @@ use Rattle.connection.specs.State.{opened, liveAt, isNotOpen, lowestFree}
 use Rattle.connection.specs.Supervision.{fitsStep, closesAt, connectionTicked, beatingOf}
 use Rattle.subscription.specs.State.{free, twinAt, lowestUnused, markedOf}
 use Rattle.objects.specs.Methods.{lockMethod, unlockMethod, setMethod, addMethod, removeMethod, resetKeyMethod, placeOf, hasMethod}
-use Rattle.objects.specs.Tests.{isMalformed, subscriptionFrom}
+use Rattle.objects.specs.Tests.{isMalformed}
 use Rattle.objects.specs.Answers.{failedOf}
 use Rattle.objects.specs.declared.Answer.{Answer}
 use Rattle.holders.specs.Holders.{ownerOf}
-use Rattle.device.specs.State.{withConnections, withSubscriptions, withHolders, withMechanism, openOf, sweepOf, closeOf, atConnection, heardAt, sentAt, toldAt, beatingAt}
+use Rattle.device.specs.State.{openOf, sweepOf, closeOf, atConnection, heardAt, sentAt, toldAt, beatingAt}
 use Rattle.device.specs.Time.{stepOf, advanced, tickStep, tickOf}
-use Rattle.device.specs.Run.{holderAt, muteAt, isHeldByOther, isSubscribed, isOutOfTurn, isFull, statusOf, mutedOf, doneOf, answerOf, ranBy, runOf}
+use Rattle.device.specs.Setters.{withConnections, withSubscriptions, withMutes, withHolders, withMechanism}
+use Rattle.subscription.specs.Arguments.{subscriptionFrom}
+use Rattle.device.specs.Run.{holderAt, muteAt, isHeldByOther, isSubscribed, isOutOfTurn, isFull, laterStatus, statusOf, mutedOf, doneOf, answerOf, ranBy, runOf}
 use Rattle.device.specs.declared.Device.{Device}
 use Rattle.device.specs.declared.Opened.{Opened}
 use Rattle.device.specs.declared.Opening.the-variants as opens
@@ -139,7 +141,7 @@ module _ (d : Device) (k : Mechanism) where
 
 -- ---- a command
 status-frame : (d : Device) (k : Mechanism) (n t m count : ℕ) (part : List ℕ) → statusOf (withMechanism d k) n t m count part ≡ statusOf d n t m count part
-unfolding statusOf isHeldByOther holderAt isSubscribed isOutOfTurn isFull
+unfolding statusOf laterStatus isHeldByOther holderAt isSubscribed isOutOfTurn isFull
 status-frame d k n t m count part = refl
 
 done-frame : (d : Device) (k : Mechanism) (n t m : ℕ) (part : List ℕ)
@@ -154,7 +156,7 @@ done-frame d k n t m part = go (eqb m resetKeyMethod) refl
     chain a b c f g h i x =
         cond a (withHolders x (set (d .holders) (placeOf t) (ownerOf n)))
         (cond b (withHolders x (set (d .holders) (placeOf t) 0))
-        (cond c (cond f x (record { reading = d .reading; connections = d .connections; subscriptions = map (markedOf t) (d .subscriptions); mutes = set (d .mutes) (placeOf t) (getD part 0 0); holders = d .holders; mechanism = x .mechanism }))
+        (cond c (cond f x (withMutes (withSubscriptions x (map (markedOf t) (d .subscriptions))) (set (d .mutes) (placeOf t) (getD part 0 0))))
         (cond g (withSubscriptions x (set (d .subscriptions) (lowestUnused (d .subscriptions)) (subscriptionFrom n part)))
         (cond h (withSubscriptions x (set (d .subscriptions) (twinAt (subscriptionFrom n part) (d .subscriptions)) free))
         (cond i (withMechanism x (armedBy part)) x)))))

@@ -25,8 +25,9 @@ use Rattle.mechanism.specs.declared.Mechanism.{Mechanism}
 use Rattle.mechanism.proofs.Kept.{mechanism-kept}
 use Rattle.connection.specs.State.{connectionCount, liveAt, lowestDue}
 use Rattle.subscription.specs.State.{entryCount, lowestWaiting}
-use Rattle.device.specs.State.{freshOf, withMechanism, openOf, closeOf, sweepOf, sentAt, toldAt, livesIn}
+use Rattle.device.specs.State.{freshOf, openOf, closeOf, sweepOf, sentAt, toldAt, livesIn}
 use Rattle.device.specs.Obeys.{deviceObeys}
+use Rattle.device.specs.Setters.{withMechanism}
 use Rattle.device.specs.Time.{tickOf}
 use Rattle.device.specs.Run.{muteAt}
 use Rattle.device.specs.Run as commands

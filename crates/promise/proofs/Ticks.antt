@@ -18,7 +18,7 @@ use Rattle.connection.proofs.Keeps.{supervision-kept}
 use Rattle.device.specs.State.{sweepOf, livesIn}
 use Rattle.device.specs.Obeys.{deviceObeys}
 use Rattle.device.specs.Time.{tickStep, tickOf}
-use Rattle.device.specs.Closure.{Stays}
+use Rattle.device.specs.Closure.{Stays, Passing}
 use Rattle.device.specs.declared.Ticking.the-variants as ticks
 use Rattle.device.proofs.Closures.{closure-frees}
 use Rattle.stream.specs.Machine.{asked}
@@ -39,15 +39,10 @@ use Rattle.promise.proofs.DeviceLaws.{device-laws}
 abbrev pub maskAt : Record → ℕ → ℕ
 maskAt r reading = mask (closesAt (stepAt r reading)) (r .device .connections)
 
--- rows 6 and 7 do not apply
-pub record Timely (r : Record) (reading : ℕ) : Type 0 where
-  pub early : leb (2 ^ 31) (stepAt r reading) ≡ false
-  pub fits : all (fitsStep (stepAt r reading)) (r .device .connections) ≡ true
-
 -- what it gives
 pub record Ticks (r : Record) (area : List ℕ) (reading : ℕ) : Type 0 where
   pub obeys : deviceObeys (r .device) ≡ true
-  pub timely : Timely r reading
+  pub timely : Passing (r .device) reading
   pub given : tickCall r area reading ≡ tickedBy (ticks.Closed (maskAt r reading)) r (tickOf (r .device) reading) area
 
 pub device-obeys : (r : Record) → recordObeys r ≡ true → deviceObeys (r .device) ≡ true
@@ -80,7 +75,7 @@ held-none (b ∷ lives) (k ∷ held) zero h e = rw e
 held-none (b ∷ lives) (k ∷ held) (suc n) h e = held-none lives held n (le-of-suc-le-suc h) e
 
 -- connection n after a tick
-pub ticked-at : (r : Record) (reading n : ℕ) → Timely r reading
+pub ticked-at : (r : Record) (reading n : ℕ) → Passing (r .device) reading
     → getD (tickOf (r .device) reading .device .connections) n closed ≡ connectionTicked (stepAt r reading) (getD (r .device .connections) n closed)
 unfolding tickStep sweepOf connectionTicked
 ticked-at r reading n t = rw (t .early, t .fits) (List·getD-map (connectionTicked (stepAt r reading)) (r .device .connections) n closed)
@@ -128,7 +123,7 @@ module _ (r : Record) (area : List ℕ) (reading : ℕ) (p : passes r area readi
 
   -- a connection that set no heartbeat
   pub unwatched : (n : ℕ) → liveAt (r .device .connections) n ≡ true → getD (r .device .connections) n closed .beat ≡ 0 → Stays n (r .device) (tickCall r area reading .state .device)
-  unwatched n l z = rw after (closure-frees .staying (r .device) reading n (t .timely .early) (t .timely .fits) l idle)
+  unwatched n l z = rw after (closure-frees .staying (r .device) reading n (t .timely) l idle)
     where
       idle : closesAt (stepAt r reading) (getD (r .device .connections) n closed) ≡ false
       idle = never-idle (stepAt r reading) (getD (r .device .connections) n closed) z
@@ -156,7 +151,7 @@ module _ (r : Record) (area : List ℕ) (reading : ℕ) (p : passes r area readi
 
     pub shutting : 3 * H ≤ s + stepAt r reading → Closes r area reading n
     shutting l =
-        let g = closure-frees .ticking (r .device) reading n (t .timely .early) (t .timely .fits) (late l) in
+        let g = closure-frees .ticking (r .device) reading n (t .timely) (late l) in
         let e = tickOf (r .device) reading .device in
         let low : n < length (livesIn e) = omega (arith, live-low (r .device .connections) n 8 (w .live) (w .eight), length-lives e, fine-after .eight) in
         record {
@@ -168,13 +163,13 @@ module _ (r : Record) (area : List ℕ) (reading : ℕ) (p : passes r area readi
         }
 
     pub letting : 3 * H ≤ s + stepAt r reading → (k at : ℕ) → at < 8 → getD (r .device .holders) at 0 ≡ n + 1 → lockStatus (tickCall r area reading .state .device) k at ≡ 0
-    letting l k at h e = rw after (closure-frees .expiring (r .device) reading n k at (t .timely .early) (t .timely .fits) (late l) h e)
+    letting l k at h e = rw after (closure-frees .expiring (r .device) reading n k at (t .timely) (late l) h e)
 
     pub leaving : s + stepAt r reading < 3 * H → Leaves r area reading n H (s + stepAt r reading)
     leaving l =
         let k = test ∙ lt-leb (3 * H) (s + stepAt r reading) l in
         let c = getD (r .device .connections) n closed in
-        let g = closure-frees .staying (r .device) reading n (t .timely .early) (t .timely .fits) (w .live) k in
+        let g = closure-frees .staying (r .device) reading n (t .timely) (w .live) k in
         let q = ticked-at r reading n (t .timely) in
         let m = supervision-kept .counting (stepAt r reading) c beats k in
         let v : Watched (tickOf (r .device) reading .device) n H (s + stepAt r reading) =

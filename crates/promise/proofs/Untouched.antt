@@ -10,7 +10,7 @@ use lib.Seq.{getD-set-other, map-set-same}
 use borrow.Author.Tests.{eqb-true, eqb-false, eq-eqb, ne-eqb, not-true}
 use Rattle.laws.specs.Lists.{any, index}
 use Rattle.laws.proofs.Tables.{clash}
-use Rattle.laws.proofs.Conds.{either}
+use Rattle.laws.proofs.Conds.{either, cond-right}
 use Rattle.frame.specs.Decide.{decide, settled}
 use Rattle.frame.proofs.Ways.{unsettled}
 use Rattle.frame.specs.declared.Decision.{Decision}
@@ -22,17 +22,19 @@ use Rattle.connection.specs.Supervision.{heardOf, sentOf, beatingOf}
 use Rattle.connection.specs.declared.Connection.{Connection}
 use Rattle.objects.specs.Answers.{failedOf}
 use Rattle.holders.specs.Holders.{ownerOf, isOther}
-use Rattle.subscription.specs.State.{free, lowestWaiting}
-use Rattle.objects.specs.Methods.{lockMethod, setMethod, placeOf, isObject, isLocking, hasMethod}
-use Rattle.objects.specs.Tests.{isForbidden, isMalformed}
+use Rattle.subscription.specs.State.{free, twinAt, lowestUnused, lowestWaiting}
+use Rattle.objects.specs.Methods.{lockMethod, unlockMethod, setMethod, addMethod, removeMethod, resetKeyMethod, placeOf, isObject, isLocking, hasMethod}
+use Rattle.objects.specs.Tests.{isForbidden, isMalformed, firstStatus}
 use Rattle.serve.specs.Serve.{ranWith, ranFirst, lastOf}
 use Rattle.serve.specs.Sound.{Ruled, commandsOf, keptAlive, soundOf}
 use Rattle.frame.specs.Limits.{headerEnd, notification, keepAlive}
 use Rattle.frame.specs.Header.{pduType, messageCount}
 use Rattle.frame.specs.Entry.{entrySize}
 use Rattle.fields.specs.Fields.{heartbeatOf}
-use Rattle.device.specs.State.{sweepOf, openOf, closeOf, atConnection, withHolders, heardAt, sentAt, toldAt, beatingAt}
-use Rattle.device.specs.Run.{holderAt, isHeldByOther, statusOf, doneOf, runOf}
+use Rattle.device.specs.State.{sweepOf, openOf, closeOf, atConnection, heardAt, sentAt, toldAt, beatingAt}
+use Rattle.device.specs.Run.{holderAt, muteAt, isHeldByOther, laterStatus, statusOf, mutedOf, doneOf, answerOf, unchanged, ranBy, runOf}
+use Rattle.device.specs.Setters.{withSubscriptions, withHolders, withMechanism}
+use Rattle.subscription.specs.Arguments.{subscriptionFrom}
 use Rattle.device.specs.declared.Opened.{Opened}
 use Rattle.device.specs.declared.Opening.{Opening}
 use Rattle.device.specs.declared.Opening.the-variants as opens
@@ -40,7 +42,7 @@ use Rattle.device.specs.Closure.{isLockOf, locksOf, Stays}
 use Rattle.device.specs.declared.Device.{Device}
 use Rattle.device.specs.declared.Ran.{Ran}
 use Rattle.device.proofs.Closures.{closure-frees}
-use Rattle.device.proofs.Commands.{lock-other}
+use Rattle.device.proofs.Commands.{neither-fails, lock-other}
 use Rattle.endpoint.specs.State.{recordObeys, closedState}
 use Rattle.endpoint.specs.Outcome.{Outcome}
 use Rattle.endpoint.specs.Calls.{openedBy, openCall, closeCall}
@@ -114,13 +116,8 @@ opened-other (c ∷ cs) (suc n) l = go (c .live) (opened-other cs n l)
     go true q = q
 
 -- a command with status 0 is not refused by another's lock
-not-held : (a b c e h : Bool) (z : ℕ) → eqb (cond a 5 (cond b 11 (cond c 8 (cond e 4 (cond h 3 z))))) 0 ≡ true → h ≡ false
-not-held a b c e false z q = refl
-not-held true b c e true z q = sym q
-not-held false true c e true z q = sym q
-not-held false false true e true z q = sym q
-not-held false false false true true z q = sym q
-not-held false false false false true z q = sym q
+not-held : (h : Bool) (z : ℕ) → cond h 3 z ≡ 0 → h ≡ false
+not-held h z q = cond-right h 3 z 0 q (λ e. omega arith) .0
 
 module _ (n : ℕ) where
   same-refl : (d : Device) → Same n d d
@@ -218,12 +215,13 @@ module _ (n : ℕ) where
         free false c q = q
 
     run-same : (d : Device) (target m count : ℕ) (part : List ℕ) → Same n d (runOf d k target m count part .device)
-    unfolding statusOf
+    unfolding statusOf laterStatus
     run-same d target m count part =
         run-ways (Same n d) d k target m count part
         (λ q.
         done-same d target m part
-        (not-held (not (isObject target)) (not (hasMethod target m)) (isForbidden target m) (isMalformed m count part) (isHeldByOther d k target m) _ (eq-eqb _ 0 q)))
+        (not-held (isHeldByOther d k target m) _
+        (neither-fails (firstStatus target m count part) (laterStatus d k target m part) q .1)))
         (same-refl d)
 
     last-same : (count : ℕ) (d : Device) (kind : ℕ) (t : List ℕ) → Same n d (lastOf count d k kind t)

@@ -20,8 +20,7 @@ use Rattle.mechanism.specs.State.{keyBytes, disarmed}
 use Rattle.mechanism.specs.Datagram as mechanism
 use Rattle.mechanism.specs.Datagram.{sentinel}
 use Rattle.connection.specs.State.{connectionCount, liveAt}
-use Rattle.subscription.specs.State.{firstMute}
-use Rattle.objects.specs.Methods.{methodNumber, lockMethod}
+use Rattle.objects.specs.Methods.{methodNumber, lockMethod, firstMute}
 use Rattle.device.specs.State.{muteCount, freshOf}
 use Rattle.device.specs.Run as commands
 use Rattle.device.specs.declared.Device.{Device}

@@ -21,9 +21,9 @@ use Rattle.mechanism.specs.Datagram.{resets}
 use Rattle.mechanism.specs.declared.Mechanism.{Mechanism}
 use Rattle.objects.specs.Methods.{methodNumber, deviceManager, resetKeyMethod}
 use Rattle.objects.specs.Tests.{isMalformed}
-use Rattle.device.specs.State.{withMechanism}
 use Rattle.device.specs.Run.{statusOf}
 use Rattle.device.specs.Run as commands
+use Rattle.device.specs.Setters.{withMechanism}
 use Rattle.device.specs.declared.Device.{Device}
 use Rattle.stream.specs.Machine.{deliver, ask, handed, asked, Held}
 use Rattle.stream.specs.Promise.{AllBytes}

@@ -13,8 +13,7 @@ use Rattle.frame.specs.declared.Decision.the-variants.{Undecided}
 use Rattle.area.specs.Area.{undecidedOf}
 use Rattle.mechanism.specs.Datagram.{resets}
 use Rattle.connection.specs.State.{connectionCount, closed, liveAt}
-use Rattle.subscription.specs.State.{firstMute}
-use Rattle.objects.specs.Methods.{lockMethod}
+use Rattle.objects.specs.Methods.{lockMethod, firstMute}
 use Rattle.device.specs.State.{muteCount}
 use Rattle.device.specs.Time.{stepOf}
 use Rattle.device.specs.Run.{runOf}

@@ -3,7 +3,7 @@ use Prim.Native.Nat.{ℕ, _+_, _≤_}
 use mathlib.Core.Path.{_≡_, refl, sym, ap, _∙_}
 use mathlib.Core.List.{List, [], _∷_, _++_}
 use native.Mathlib.Omega.{arith}
-use lib.ListN.{length, take, length-append}
+use lib.ListN.{length, take}
 use lib.Seq.{sets, length-take-le}
 use Rattle.laws.proofs.Stores.{sets-append}
 use Rattle.octets.specs.Numbers.{bytes16, bytes32}
@@ -15,7 +15,7 @@ use Rattle.frame.specs.Limits.{leastResponse, leastNotification, notification, 
 use Rattle.layout.specs.Message.{sizeOf, headBytes, message, beatBytes, atFront}
 use Rattle.layout.proofs.Messages.{length-message, put-whole}
 use Rattle.subscription.specs.declared.Subscription.{Subscription}
-use Rattle.objects.specs.Methods.{methodNumber}
+use Rattle.objects.specs.Methods.{muteProperty}
 use Rattle.objects.specs.declared.Answer.{Answer}
 use Rattle.replies.specs.Bytes.{responseBytes, subscriberBytes, changeBytes, notificationEntry, notificationBytes, keepAliveBytes}
 
@@ -50,7 +50,7 @@ unfolding subscriberBytes bytes32
 subscriber-stores s b0 b1 b2 b3 b4 b5 e1 e2 e3 e4 e5 = rw (e5, e4, e3, e2, e1)
 
 pub change-stores : (s : Subscription) (value : ℕ) (b0 b1 b2 b3 b4 b5 : List ℕ) → b1 ≡ sets b0 27 (bytes32 (s .emitter))
-    → b2 ≡ sets b1 31 (bytes32 (s .event)) → b3 ≡ sets b2 35 (bytes32 (methodNumber 4 1)) → b4 ≡ sets b3 39 (value ∷ []) → b5 ≡ sets b4 40 (1 ∷ [])
+    → b2 ≡ sets b1 31 (bytes32 (s .event)) → b3 ≡ sets b2 35 (bytes32 muteProperty) → b4 ≡ sets b3 39 (value ∷ []) → b5 ≡ sets b4 40 (1 ∷ [])
     → b5 ≡ sets b0 27 (changeBytes s value)
 unfolding changeBytes bytes32
 change-stores s value b0 b1 b2 b3 b4 b5 e1 e2 e3 e4 e5 = rw (e5, e4, e3, e2, e1)

@@ -8,7 +8,7 @@ use Rattle.heartbeat.specs.declared.Heartbeat.{Heartbeat}
 use Rattle.frame.specs.Limits.{leastNotification, leastResponse, notification, keepAlive}
 use Rattle.layout.specs.Message.{message, beatBytes}
 use Rattle.subscription.specs.declared.Subscription.{Subscription}
-use Rattle.objects.specs.Methods.{methodNumber}
+use Rattle.objects.specs.Methods.{muteProperty}
 use Rattle.objects.specs.declared.Answer.{Answer}
 
 -- "4 NoRoom: output under 4,096 (delivery, take)"
@@ -27,7 +27,7 @@ subscriberBytes s =
 
 -- "emitter 4, event 4, event parameters", with "then property 4.1 (4 bytes), the value, 1"
 unfoldable pub changeBytes : Subscription → ℕ → List ℕ
-changeBytes s value = bytes32 (s .emitter) ++ (bytes32 (s .event) ++ (bytes32 (methodNumber 4 1) ++ (value ∷ 1 ∷ [])))
+changeBytes s value = bytes32 (s .emitter) ++ (bytes32 (s .event) ++ (bytes32 muteProperty ++ (value ∷ 1 ∷ [])))
 
 unfoldable pub notificationEntry : Subscription → ℕ → List ℕ
 notificationEntry s value = subscriberBytes s ++ changeBytes s value

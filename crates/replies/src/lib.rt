@@ -37,9 +37,6 @@ const VALUE: usize = PROPERTY + 4;
 
 const CHANGE_TYPE: usize = VALUE + 1;
 
-// Property 4.1.
-const MUTE_PROPERTY: u32 = 262145;
-
 // One response from place at on: the place behind it.
 pub fn put_response(out: &mut [u8], at: usize, handle: u32, answer: Answer) -> usize
     requires { ⌜ (answer .length ≤ 12) × (at + 22 ≤ length (now out)) ⌝ }
@@ -73,7 +70,7 @@ fn put_change(out: &mut [u8], s: Subscription, value: u8)
 {
     octets::put32(out, EMITTER, s.emitter);
     octets::put32(out, EVENT, s.event);
-    octets::put32(out, PROPERTY, MUTE_PROPERTY);
+    octets::put32(out, PROPERTY, objects::MUTE_PROPERTY);
     octets::put8(out, VALUE, value);
     octets::put8(out, CHANGE_TYPE, 1);
 }

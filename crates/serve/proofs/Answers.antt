@@ -7,8 +7,8 @@ use native.Mathlib.Omega.{arith}
 use lib.Dec.{eqb}
 use lib.ListN.{length, replicate}
 use lib.Seq.{sets, length-sets}
-use Rattle.subscription.specs.State.{isMute}
-use Rattle.objects.specs.Methods.{deviceManager, classMethod, lockableMethod, getMethod}
+use Rattle.octets.specs.Numbers.{bytes16}
+use Rattle.objects.specs.Methods.{isMute, deviceManager, classMethod, lockableMethod, getMethod}
 use Rattle.objects.specs.Answers.{replyRoom, classOf, identificationOf, replyOf, failedOf, answerWith}
 use Rattle.objects.specs.declared.Answer.{Answer}
 use Rattle.device.specs.Run.{muteAt, statusOf, doneOf, answerOf, ranBy, runOf}
@@ -29,7 +29,7 @@ unfolding answerWith
 told-fits bytes h = record { low = h; room = length-sets (replicate replyRoom 0) 0 bytes }
 
 class-fits : (target : ℕ) → length (identificationOf (classOf target)) ≤ 12
-unfolding identificationOf classOf
+unfolding identificationOf classOf bytes16
 class-fits target = go (isMute target) (eqb target deviceManager)
   where
     go : (a b : Bool) → length (identificationOf (cond a (1 ∷ 1 ∷ 1 ∷ 2 ∷ []) (cond b (1 ∷ 3 ∷ 1 ∷ []) (1 ∷ 3 ∷ 4 ∷ [])))) ≤ 12

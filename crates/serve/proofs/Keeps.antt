@@ -21,8 +21,9 @@ use Rattle.frame.specs.Scaffold.{SoundAt}
 use Rattle.fields.specs.Fields.{heartbeatOf}
 use Rattle.connection.specs.State.{closed, liveAt, isLive}
 use Rattle.connection.specs.Obeys.{topMilliseconds}
-use Rattle.connection.specs.Supervision.{heardOf, sentOf, setBeat, supervised, beatingOf}
+use Rattle.connection.specs.Supervision.{heardOf, sentOf, setBeat, beatingOf}
 use Rattle.connection.specs.Kept.{fitsForm}
+use Rattle.connection.specs.Setters.{supervised}
 use Rattle.connection.specs.declared.Connection.{Connection}
 use Rattle.objects.specs.Answers.{failedOf}
 use Rattle.device.specs.State.{atConnection, livesIn, heardAt, sentAt, toldAt, beatingAt}

@@ -13,8 +13,10 @@ use Rattle.laws.proofs.Tables.{all-true}
 use Rattle.laws.proofs.Loops.{Testing, testing-more, testing-not, Mapping, mapping-from, Pairing, pairing-next}
 use Rattle.connection.proofs.Times.{live-out, live-in}
 use Rattle.connection.specs.declared.Connection.{Connection}
-use Rattle.subscription.specs.State.{free, isUnused, isWaiting, isTwin, withWaiting, markedOf, sweptBy, sweptOf}
-use Rattle.subscription.specs.Obeys.{isFree, soundBy, isSound, entryObeys, apart}
+use Rattle.subscription.specs.Setters.{withWaiting}
+use Rattle.subscription.specs.State.{free, isUnused, isWaiting, isTwin, markedOf, sweptOf}
+use Rattle.subscription.specs.Obeys.{isFree, isSound, entryObeys, apart}
+use Rattle.subscription.specs.Scaffold.{soundBy, sweptBy}
 use Rattle.subscription.specs.declared.Subscription.{Subscription}
 
 pub unused-is : (t : Subscription) (b : Bool) → not (t .used) ≡ b → isUnused t ≡ b

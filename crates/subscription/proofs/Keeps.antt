@@ -9,7 +9,9 @@ use Rattle.laws.proofs.Conds.{and-left, and-right}
 use Rattle.laws.proofs.Tables.{and-both, or-cases, or-right, clash, eqb-even}
 use Rattle.connection.specs.State.{liveAt}
 use Rattle.connection.specs.declared.Connection.{Connection}
-use Rattle.subscription.specs.State.{isMute, changeEvent, free, isTwin, withWaiting, markedOf, toldOf, sweptOf}
+use Rattle.objects.specs.Methods.{changeEvent, isMute}
+use Rattle.subscription.specs.Setters.{withWaiting}
+use Rattle.subscription.specs.State.{free, isTwin, markedOf, toldOf, sweptOf}
 use Rattle.subscription.specs.Obeys.{isFree, isSound, entryObeys, apart}
 use Rattle.subscription.specs.Kept.{EntriesKept}
 use Rattle.subscription.specs.declared.Subscription.{Subscription}

@@ -4,21 +4,19 @@ use mathlib.Core.List.{List}
 use lib.Dec.{eqb}
 use Rattle.connection.specs.State.{liveAt}
 use Rattle.connection.specs.declared.Connection.{Connection}
-use Rattle.subscription.specs.State.{isMute, changeEvent, isTwin}
+use Rattle.objects.specs.Methods.{changeEvent, isMute}
+use Rattle.subscription.specs.State.{isTwin}
 use Rattle.subscription.specs.declared.Subscription.{Subscription}
 
 -- "a free entry is all zero"
 unfoldable pub isFree : Subscription → Bool
 isFree s =
-    not (s .used) && not (s .waiting) && eqb (s .connection) 0 && eqb (s .emitter) 0 && eqb (s .event) 0 && eqb (s .object) 0 && eqb (s .method) 0 && eqb (s .context) 0
-
--- an entry that is used, where its connection is open or not
-abbrev pub soundBy : Bool → Subscription → Bool
-soundBy live s = s .used && live && isMute (s .emitter) && eqb (s .event) changeEvent
+    not (s .used) && not (s .waiting) && eqb (s .connection) 0 && eqb (s .emitter) 0 && eqb (s .event) 0 && eqb (s .object) 0
+    && eqb (s .method) 0 && eqb (s .context) 0
 
 -- "a used one has an open connection, a mute as emitter and event 1.1"
 unfoldable pub isSound : List Connection → Subscription → Bool
-isSound cs s = soundBy (liveAt cs (s .connection)) s
+isSound cs s = s .used && liveAt cs (s .connection) && isMute (s .emitter) && eqb (s .event) changeEvent
 
 unfoldable pub entryObeys : List Connection → Subscription → Bool
 entryObeys cs s = isFree s || isSound cs s

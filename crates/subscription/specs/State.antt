@@ -2,29 +2,16 @@
 use Prim.Native.Nat.{ℕ}
 use mathlib.Core.Bool.{Bool, true, false, cond, not, _&&_}
 use mathlib.Core.List.{List}
-use lib.Dec.{eqb, leb}
+use lib.Dec.{eqb}
 use Rattle.laws.specs.Lists.{index}
 use Rattle.connection.specs.State.{liveAt}
 use Rattle.connection.specs.declared.Connection.{Connection}
+use Rattle.subscription.specs.Setters.{withWaiting}
 use Rattle.subscription.specs.declared.Subscription.{Subscription}
 
 -- "32 subscription entries"
 abbrev pub entryCount : ℕ
 entryCount = 32
-
--- "objects 4097 to 4104, mutes"
-abbrev pub firstMute : ℕ
-firstMute = 4097
-
-abbrev pub lastMute : ℕ
-lastMute = 4104
-
-unfoldable pub isMute : ℕ → Bool
-isMute object = leb firstMute object && leb object lastMute
-
--- "event 1.1", as level × 65,536 + index
-abbrev pub changeEvent : ℕ
-changeEvent = 65537
 
 abbrev pub free : Subscription
 free = record { used = false; waiting = false; connection = 0; emitter = 0; event = 0; object = 0; method = 0; context = 0 }
@@ -38,7 +25,8 @@ isWaiting s = s .waiting
 -- "A subscription is known by connection, emitter, event and subscriber"
 unfoldable pub isTwin : Subscription → Subscription → Bool
 isTwin s t =
-    s .used && t .used && eqb (s .connection) (t .connection) && eqb (s .emitter) (t .emitter) && eqb (s .event) (t .event) && eqb (s .object) (t .object) && eqb (s .method) (t .method)
+    s .used && t .used && eqb (s .connection) (t .connection) && eqb (s .emitter) (t .emitter) && eqb (s .event) (t .event)
+    && eqb (s .object) (t .object) && eqb (s .method) (t .method)
 
 -- the entry of the same subscription, or 32
 abbrev pub twinAt : Subscription → List Subscription → ℕ
@@ -52,10 +40,6 @@ lowestUnused entries = index isUnused entries
 abbrev pub lowestWaiting : List Subscription → ℕ
 lowestWaiting entries = index isWaiting entries
 
-abbrev pub withWaiting : Subscription → Bool → Subscription
-withWaiting s w =
-    record { used = s .used; waiting = w; connection = s .connection; emitter = s .emitter; event = s .event; object = s .object; method = s .method; context = s .context }
-
 -- "A set that changes a mute marks every subscription to it as waiting"
 unfoldable pub markedOf : ℕ → Subscription → Subscription
 markedOf emitter s = cond (s .used && eqb (s .emitter) emitter) (withWaiting s true) s
@@ -64,10 +48,6 @@ markedOf emitter s = cond (s .used && eqb (s .emitter) emitter) (withWaiting s t
 unfoldable pub toldOf : Subscription → Subscription
 toldOf s = withWaiting s false
 
--- an entry swept, where its connection is open or not
-abbrev pub sweptBy : Bool → Subscription → Subscription
-sweptBy live s = cond (s .used && not live) free s
-
 -- a sweep frees whatever belongs to a connection that is not open
 unfoldable pub sweptOf : List Connection → Subscription → Subscription
-sweptOf cs s = sweptBy (liveAt cs (s .connection)) s
+sweptOf cs s = cond (s .used && not (liveAt cs (s .connection))) free s

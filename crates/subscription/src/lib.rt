@@ -3,19 +3,17 @@ use connection::Connection;
 ghost use mathlib.Core.Path.{_≡_};
 ghost use mathlib.Core.Bool.{_||_};
 ghost use mathlib.Core.List.{map};
+ghost use Prim.Native.Nat.{_≤_};
+ghost use lib.ListN.{length};
 ghost use Rattle.laws.specs.Lists.{all, allPairs};
-ghost use Rattle.subscription.specs.State.{isMute, isTwin, twinAt, lowestUnused, lowestWaiting, markedOf, toldOf, sweptBy, sweptOf};
-ghost use Rattle.subscription.specs.Obeys.{isFree, soundBy, entryObeys, apart};
+ghost use Rattle.subscription.specs.Setters.{withContext};
+ghost use Rattle.subscription.specs.State.{isTwin, twinAt, lowestUnused, lowestWaiting, markedOf, toldOf, sweptOf};
+ghost use Rattle.subscription.specs.Arguments.{subscriptionFrom, isStrange};
+ghost use Rattle.subscription.specs.Obeys.{isFree, entryObeys, apart};
 ghost use Rattle.subscription.specs.Kept.{EntriesKept};
+ghost use Rattle.subscription.specs.Scaffold.{soundBy, sweptBy};
 
 pub const ENTRIES: usize = 32;
-
-pub const FIRST_MUTE: u32 = 4097;
-
-pub const LAST_MUTE: u32 = 4104;
-
-// Event 1.1.
-pub const CHANGE_EVENT: u32 = 65537;
 
 // An event and a method are level x 65,536 + index.
 #[repr(C)]
@@ -30,10 +28,35 @@ pub struct Subscription {
     pub context: u32,
 }
 
-pub fn is_mute(object: u32) -> bool
-    ensures { λ r. ⌜ r ≡ isMute object ⌝ }
+// The arguments of add and remove; remove has no context.
+pub fn entry(n: u8, part: &[u8], context: u32) -> Subscription
+    requires { ⌜ 16 ≤ length (now part) ⌝ }
+    ensures { λ r. ⌜ r ≡ withContext (subscriptionFrom n (now (part .entry))) context ⌝ }
 {
-    (FIRST_MUTE <= object) & (object <= LAST_MUTE)
+    let emitter = octets::be32(part, 0);
+    let event = octets::be32(part, 4);
+    let object = octets::be32(part, 8);
+    let method = octets::be32(part, 12);
+    Subscription {
+        used: true,
+        waiting: false,
+        connection: n,
+        emitter,
+        event,
+        object,
+        method,
+        context,
+    }
+}
+
+pub fn is_strange(part: &[u8]) -> bool
+    requires { ⌜ 8 ≤ length (now part) ⌝ }
+    ensures { λ r. ⌜ r ≡ isStrange (now (part .entry)) ⌝ }
+{
+    let emitter = octets::be32(part, 0);
+    let event = octets::be32(part, 4);
+    let mute = objects::is_mute(emitter);
+    !(mute & (event == objects::CHANGE_EVENT))
 }
 
 impl Subscription {
@@ -64,8 +87,8 @@ impl Subscription {
     fn is_sound(self, live: bool) -> bool
         ensures { λ r. ⌜ r ≡ soundBy live self ⌝ }
     {
-        let mute = is_mute(self.emitter);
-        self.used & live & mute & (self.event == CHANGE_EVENT)
+        let mute = objects::is_mute(self.emitter);
+        self.used & live & mute & (self.event == objects::CHANGE_EVENT)
     }
 
     // `live` is whether its connection is open.

@@ -21,10 +21,10 @@ use Rattle.connection.specs.State.{connectionCount, closed, liveAt, lowestDue}
 use Rattle.connection.specs.Obeys.{connectionObeys}
 use Rattle.connection.specs.Supervision.{heartbeatKept}
 use Rattle.connection.specs.declared.Connection.{Connection}
-use Rattle.subscription.specs.State.{entryCount, isMute, isWaiting, free, changeEvent, lowestWaiting}
+use Rattle.subscription.specs.State.{entryCount, isWaiting, free, lowestWaiting}
 use Rattle.subscription.specs.Obeys.{isFree, isSound, entryObeys, apart}
 use Rattle.subscription.specs.declared.Subscription.{Subscription}
-use Rattle.objects.specs.Methods.{placeOf}
+use Rattle.objects.specs.Methods.{placeOf, isMute, changeEvent}
 use Rattle.objects.specs.Tests.{isMuteValue}
 use Rattle.holders.specs.Holders.{holderObeys}
 use Rattle.heartbeat.specs.declared.Heartbeat.{Heartbeat}

@@ -9,6 +9,7 @@ use Rattle.frame.specs.declared.Decision.the-variants.{Undecided, Faulty, Sound
 use Rattle.area.specs.Area.{undecidedOf, partCleared}
 use Rattle.area.specs.Scaffold.{gathered}
 use Rattle.area.proofs.Gathers.{waits-few, waits-gathered, cleared-gathered, decided-behind, message-lies, message-whole}
+use Rattle.device.proofs.Times.{close-device}
 use Rattle.delivery.proofs.Delivers.{taken-waits, taken-closed, taken-runs}
 use borrow.Author.Needs.{needs}
 use Rattle.delivery.proofs.take_in.Statement.{statement}
@@ -20,11 +21,11 @@ gather-requires c κs = search needs
 enum-told : tie.Need-enum-told
 enum-told c = search needs
 
-add-t18 : tie.Need-add-t18
-add-t18 c = search needs
+add-t20 : tie.Need-add-t20
+add-t20 c = search needs
 
-cast-t19 : tie.Need-cast-t19
-cast-t19 c =
+cast-t21 : tie.Need-cast-t21
+cast-t21 c =
     let s = c .before .before .before .before .before .before .before .before .before in
     let a = s .args in
     let area = now (a .area) in
@@ -43,18 +44,19 @@ clear-part-requires c κs = search needs
 close-requires : tie.Need-close-requires
 close-requires c κs = search needs
 
-sub-t26 : tie.Need-sub-t26
+sub-t27 : tie.Need-sub-t27
 unfolding settled taken
-sub-t26 c =
-    let s = c .before .before .before .before .before .before .before .before .before .before .before .before .before .before .before in
+sub-t27 c =
+    let x = c .before in
+    let s = x .before .before .before .before .before .before .before .before .before .before .before .before .before .before .before in
     let a = s .args in
     let area = now (a .area) in
     let n = a .n in
     let k = a .held in
     let piece = now (a .piece) in
     let w = s .pre .0 in
-    let f = c .before .before .before .before .before .before .f .given .0 in
-    let e : decide (undecidedOf area n k ++ piece) ≡ Faulty (f .0) (f .1 .0) = cc (c .before .before .before .before .before .before .f .given .1, c .before .before .before .before .before .before .before .before .before .before .gather .ensures .0) in
+    let f = x .before .before .before .before .before .before .f .given .0 in
+    let e : decide (undecidedOf area n k ++ piece) ≡ Faulty (f .0) (f .1 .0) = cc (x .before .before .before .before .before .before .f .given .1, x .before .before .before .before .before .before .before .before .before .before .gather .ensures .0) in
     omega (arith, rw e at (decided-behind area n k w piece (rw e)))
 
 enum-known-t : tie.Need-enum-known-t
@@ -98,16 +100,17 @@ same-length-2 c = search needs
 
 returns-2 : tie.Need-returns-2
 returns-2 c =
-    let s = c .before .before .before .before .before .before .before .before .before .before .before .before .before .before .before in
+    let x = c .before in
+    let s = x .before .before .before .before .before .before .before .before .before .before .before .before .before .before .before in
     let a = s .args in
     let area = now (a .area) in
     let n = a .n in
     let k = a .held in
     let piece = now (a .piece) in
     let w = s .pre .0 in
-    let f = c .before .before .before .before .before .before .f .given .0 in
-    let e : decide (undecidedOf area n k ++ piece) ≡ Faulty (f .0) (f .1 .0) = cc (c .before .before .before .before .before .before .f .given .1, c .before .before .before .before .before .before .before .before .before .before .gather .ensures .0) in
-    taken-closed (a .device) area n k piece (now (a .output)) (f .0) (f .1 .0) (c .close .result) (c .before .before .before .clear-part .last .0) e (c .close .ensures) (c .before .before .before .clear-part .ensures ∙ ap (λ (l : List ℕ). partCleared l n) (c .before .before .before .before .before .before .before .before .before .before .gather .ensures .1) ∙ cleared-gathered area n k w piece)
+    let f = x .before .before .before .before .before .before .f .given .0 in
+    let e : decide (undecidedOf area n k ++ piece) ≡ Faulty (f .0) (f .1 .0) = cc (x .before .before .before .before .before .before .f .given .1, x .before .before .before .before .before .before .before .before .before .before .gather .ensures .0) in
+    taken-closed (a .device) area n k piece (now (a .output)) (f .0) (f .1 .0) (x .close .result .device) (x .before .before .before .clear-part .last .0) e (close-device (a .device) n (x .close .result) (x .close .ensures)) (x .before .before .before .clear-part .ensures ∙ ap (λ (l : List ℕ). partCleared l n) (x .before .before .before .before .before .before .before .before .before .before .gather .ensures .1) ∙ cleared-gathered area n k w piece)
 
 same-length-3 : tie.Need-same-length-3
 same-length-3 c = search needs
@@ -138,12 +141,12 @@ take-in-spec =
     (tie.spec
     gather-requires
     enum-told
-    add-t18
-    cast-t19
+    add-t20
+    cast-t21
     enum-known-f
     clear-part-requires
     close-requires
-    sub-t26
+    sub-t27
     enum-known-t
     fitting-requires
     add-used

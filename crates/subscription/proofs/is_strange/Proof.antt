@@ -1,7 +1,7 @@
-use Rattle.objects.specs.Tests.{isStrange}
+use Rattle.subscription.specs.Arguments.{isStrange}
 use borrow.Author.Needs.{needs}
-use Rattle.objects.proofs.is_strange.Statement.{statement}
-use Rattle.objects.proofs.is_strange.Tie as tie
+use Rattle.subscription.proofs.is_strange.Statement.{statement}
+use Rattle.subscription.proofs.is_strange.Tie as tie
 
 be32-requires : tie.Need-be32-requires
 be32-requires c κs = search needs

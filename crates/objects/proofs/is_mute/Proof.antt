@@ -1,7 +1,7 @@
-use Rattle.subscription.specs.State.{isMute}
+use Rattle.objects.specs.Methods.{isMute}
 use mathlib.Core.Path.{refl}
-use Rattle.subscription.proofs.is_mute.Statement.{statement}
-use Rattle.subscription.proofs.is_mute.Tie as tie
+use Rattle.objects.proofs.is_mute.Statement.{statement}
+use Rattle.objects.proofs.is_mute.Tie as tie
 
 returns : tie.Need-returns
 unfolding isMute

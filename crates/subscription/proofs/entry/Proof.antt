@@ -1,7 +1,7 @@
-use Rattle.objects.specs.Tests.{subscriptionFrom}
+use Rattle.subscription.specs.Arguments.{subscriptionFrom}
 use borrow.Author.Needs.{needs}
-use Rattle.objects.proofs.entry.Statement.{statement}
-use Rattle.objects.proofs.entry.Tie as tie
+use Rattle.subscription.proofs.entry.Statement.{statement}
+use Rattle.subscription.proofs.entry.Tie as tie
 
 be32-requires : tie.Need-be32-requires
 be32-requires c κs = search needs

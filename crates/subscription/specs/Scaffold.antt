@@ -1,0 +1,14 @@
+-- For the contracts of inner functions and for proofs: no rule is here.
+use mathlib.Core.Bool.{Bool, cond, not, _&&_}
+use lib.Dec.{eqb}
+use Rattle.objects.specs.Methods.{changeEvent, isMute}
+use Rattle.subscription.specs.State.{free}
+use Rattle.subscription.specs.declared.Subscription.{Subscription}
+
+-- an entry that is used, where its connection is open or not
+abbrev pub soundBy : Bool → Subscription → Bool
+soundBy live s = s .used && live && isMute (s .emitter) && eqb (s .event) changeEvent
+
+-- an entry swept, where its connection is open or not
+abbrev pub sweptBy : Bool → Subscription → Subscription
+sweptBy live s = cond (s .used && not live) free s
