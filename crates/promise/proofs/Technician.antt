@@ -53,6 +53,13 @@ one r area (ask (taking out)) n H s a w l = same-holds n H s (r .device) _ w (ta
 one r area (ask (datagram g)) n H s a w l = same-holds n H s (r .device) _ w (datagram-call r area g n a)
 
 -- ---- calls one after another
+
+-- the time of a call and of those behind it
+time-on : (r : Record) (area : List ℕ) (c : HostCall) (s : ℕ) (rest : List HostCall) → callOf r area c .state .device .reading ≡ readingBy (r .device .reading) c
+    → s + stepBy (r .device .reading) c + timeOf (callOf r area c .state .device .reading) rest
+    ≡ s + (stepBy (r .device .reading) c + timeOf (readingBy (r .device .reading) c) rest)
+time-on r area c s rest e = rw e (omega arith)
+
 record Still (n H s : ℕ) (d e : Device) : Type 0 where
   watched : Watched e n H s
   locks : (at : ℕ) → getD (d .holders) at 0 ≡ n + 1 → getD (e .holders) at 0 ≡ n + 1
@@ -66,7 +73,7 @@ many r area (c ∷ rest) n H s w =
     let b = and-right (isSilent n r area c) _ (w .silent) in
     let r' = callOf r area c .state in
     let v = one r area c n H s a (w .watched) (omega (arith, w .below)) in
-    let e : s + stepBy (r .device .reading) c + timeOf (r' .device .reading) rest ≡ s + (stepBy (r .device .reading) c + timeOf (readingBy (r .device .reading) c) rest) = rw (v .reading) (omega arith) in
+    let e = time-on r area c s rest (v .reading) in
     let m = many r' (callOf r area c .area) rest n H (s + stepBy (r .device .reading) c) (record { watched = v .watched; silent = b; below = rw e (w .below) }) in
     record { watched = rw e at (m .watched); locks = λ at h. m .locks at (v .locks at h) }
 
@@ -86,8 +93,8 @@ first r area (c ∷ rest) y n H s w =
     let b = and-right (isSilent n r area c) _ (w .silent) in
     let r' = callOf r area c .state in
     let v = one r area c n H s a (w .watched) (omega (arith, w .below)) in
-    let e : s + stepBy (r .device .reading) c + timeOf (r' .device .reading) rest ≡ s + (stepBy (r .device .reading) c + timeOf (readingBy (r .device .reading) c) rest) = rw (v .reading) (omega arith) in
-    let f : s + stepBy (r .device .reading) c + timeOf (r' .device .reading) (thenTick rest y) ≡ s + (stepBy (r .device .reading) c + timeOf (readingBy (r .device .reading) c) (thenTick rest y)) = rw (v .reading) (omega arith) in
+    let e = time-on r area c s rest (v .reading) in
+    let f = time-on r area c s (thenTick rest y) (v .reading) in
     let m =
     first r' (callOf r area c .area) rest y n H (s + stepBy (r .device .reading) c)
     (record { watched = v .watched; silent = b; below = rw e (w .below); reaches = rw f (w .reaches) }) in

@@ -1,5 +1,5 @@
 -- The chain from the code to document 01's rules: what a script's calls leave is what the rules over whole messages give.
-use Prim.Native.Nat.{ℕ, _≤_, _<_}
+use Prim.Native.Nat.{ℕ, _^_, _≤_, _<_}
 use mathlib.Core.Path.{_≡_}
 use mathlib.Core.List.{List, [], _∷_, _++_}
 use lib.ListN.{length}
@@ -12,7 +12,7 @@ use Rattle.promise.specs.Rulebook.{datagram}
 use Rattle.promise.specs.Calls.{HostCall, recordWith, areaWith}
 use Rattle.promise.specs.Stream.{GoodState, machine, gives}
 use Rattle.answers.specs.Numbers.{numbersOf}
-use Rattle.script.specs.Script.{stage, callBy, callIn, behind, callsIn, lastOutput, lastAnswer, scriptOf}
+use Rattle.script.specs.Script.{stage, callTake, callDatagram, callBy, callIn, behind, callsIn, lastOutput, lastAnswer, scriptOf}
 
 -- the first call of a script, lent this output, is c, and more lies behind it
 pub record FirstIs (s output : List ℕ) (c : HostCall) (more : List ℕ) : Type 0 where
@@ -31,11 +31,11 @@ pub record ScriptsRun : Type 0 where
   -- those calls' pieces are bytes, so all that the stream theorem says of calls it says of them
   pub pieces : (r : Record) (area s output : List ℕ) → Octets s → AllBytes (callsIn r area s output)
   -- every call can be written: an opening, a closing, a reading or a taking in six bytes
-  pub asks : (kind n value : ℕ) (more output : List ℕ) → kind ≤ 3 → value < 4294967296
+  pub asks : (kind n value : ℕ) (more output : List ℕ) → kind ≤ callTake → value < 2 ^ 32
       → FirstIs (kind ∷ n ∷ (bytes32 value ++ more)) output (callBy kind n value [] output) more
   -- a datagram with its bytes behind them
-  pub datagrams : (n : ℕ) (piece more output : List ℕ) → length piece < 4294967296
-      → FirstIs (4 ∷ n ∷ (bytes32 (length piece) ++ (piece ++ more))) output (ask (datagram piece)) more
+  pub datagrams : (n : ℕ) (piece more output : List ℕ) → length piece < 2 ^ 32
+      → FirstIs (callDatagram ∷ n ∷ (bytes32 (length piece) ++ (piece ++ more))) output (ask (datagram piece)) more
   -- and a delivery with its piece behind them
-  pub deliveries : (kind n : ℕ) (piece more output : List ℕ) → 4 < kind → length piece < 4294967296
+  pub deliveries : (kind n : ℕ) (piece more output : List ℕ) → callDatagram < kind → length piece < 2 ^ 32
       → FirstIs (kind ∷ n ∷ (bytes32 (length piece) ++ (piece ++ more))) output (deliver n piece output) more

@@ -40,26 +40,43 @@ stageOf c r area output =
 
 -- ---- how calls are written: a kind, a connection's number, a number of 32 bits, and the piece of a datagram or a delivery
 
--- 4 is a datagram on the reset mechanism's port; any other of the kinds with a piece delivers to that connection
-unfoldable pub sentBy : ℕ → ℕ → List ℕ → List ℕ → HostCall
-sentBy kind n piece output = cond (eqb kind 4) (ask (datagram piece)) (deliver n piece output)
+-- the kinds without a piece, and that of a datagram on the reset mechanism's port; any kind above delivers
+abbrev pub callOpen : ℕ
+callOpen = 0
 
--- 0 opens, 1 closes that connection, 2 is a clock reading, 3 takes; any other sends its piece
+abbrev pub callClose : ℕ
+callClose = 1
+
+abbrev pub callTick : ℕ
+callTick = 2
+
+abbrev pub callTake : ℕ
+callTake = 3
+
+abbrev pub callDatagram : ℕ
+callDatagram = 4
+
+-- a call with a piece: a datagram, or a delivery to that connection
+unfoldable pub sentBy : ℕ → ℕ → List ℕ → List ℕ → HostCall
+sentBy kind n piece output = cond (eqb kind callDatagram) (ask (datagram piece)) (deliver n piece output)
+
+-- a call by its kind; any other than the first four sends its piece
 unfoldable pub callBy : ℕ → ℕ → ℕ → List ℕ → List ℕ → HostCall
 callBy kind n value piece output =
-    cond (eqb kind 0) (ask opening)
-    (cond (eqb kind 1) (ask (closing n))
-    (cond (eqb kind 2) (ask (ticking value))
-    (cond (eqb kind 3) (ask (taking output))
+    cond (eqb kind callOpen) (ask opening)
+    (cond (eqb kind callClose) (ask (closing n))
+    (cond (eqb kind callTick) (ask (ticking value))
+    (cond (eqb kind callTake) (ask (taking output))
     (sentBy kind n piece output))))
 
+-- the bytes before a piece
 abbrev pub callHead : ℕ
 callHead = 6
 
 -- how many bytes the first call of a script has: a piece is as long as its number says, or as what is left
 unfoldable pub firstSize : List ℕ → ℕ
 firstSize s =
-    cond (leb (getD s 0 0) 3) callHead
+    cond (leb (getD s 0 0) callTake) callHead
     (cond (ltb (length s) (callHead + be32At s 2)) (length s) (callHead + be32At s 2))
 
 -- the first call of a script, lent this output
