@@ -1,4 +1,4 @@
--- A delivery, on a lent state, is the step of the machine over pieces: for Calls and Kept. Assumes nothing.
+-- A delivery, on a lent state, is the step of the machine over pieces: for Calls, Kept and Closure. Assumes nothing.
 use Prim.Native.Nat.{ℕ, zero, _+_, _≤_, _<_}
 use mathlib.Core.Path.{_≡_, refl, sym, ap, _∙_}
 use mathlib.Core.Bool.{Bool, true, false}

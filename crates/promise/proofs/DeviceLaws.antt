@@ -1,4 +1,4 @@
--- The device keeps the laws that the stream theorem asks: for Kept, Stream and Ticks. Assumes nothing.
+-- The device keeps the laws that the stream theorem asks: for Calls, Kept, Stream, Ticks and Untouched. Assumes nothing.
 use Prim.Native.Nat.{ℕ, _^_, _<_}
 use mathlib.Core.Path.{_≡_, refl, sym, ap, _∙_}
 use mathlib.Core.Bool.{Bool, cond, true, false, not, _&&_}
