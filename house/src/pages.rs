@@ -12,7 +12,15 @@ fn is_path(word: &str) -> bool {
     let has_ending = [".antt", ".rt", ".edit", ".md", ".h", ".c", ".rs"]
         .iter()
         .any(|e| word.ends_with(e));
-    has_ending && word.contains('/') && !word.contains([' ', '*', '{', '…'])
+    // `specs/Lib.antt` is any crate's, `crates/NAME` stands for a name
+    let is_any = ["src/", "specs/", "proofs/", "must-fail/"]
+        .iter()
+        .any(|f| word.starts_with(f));
+    has_ending
+        && word.contains('/')
+        && !is_any
+        && !word.contains("NAME")
+        && !word.contains([' ', '*', '{', '…'])
 }
 
 pub fn check_paths(root: &Path, pages: &[Text]) -> Vec<Finding> {
@@ -127,12 +135,12 @@ mod tests {
 
     #[test]
     fn a_path_that_is_not_there_is_found() {
-        let root = Path::new(env!("CARGO_MANIFEST_DIR"));
+        let root = Path::new(env!("CARGO_MANIFEST_DIR")).join("..");
         let page = Text::new(
             "docs/P.md",
-            "`src/main.rs` and `src/nothing.rs`, `a b/c.md`, `main.rs`",
+            "`house/src/main.rs` and `house/src/nothing.rs`, `a b/c.md`, `main.rs`, `specs/Lib.antt`",
         );
-        assert_eq!(check_paths(root, &[page]).len(), 1);
+        assert_eq!(check_paths(&root, &[page]).len(), 1);
     }
 
     #[test]

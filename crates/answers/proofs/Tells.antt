@@ -6,7 +6,7 @@ use mathlib.Core.Bool.{cond}
 use lib.ListN.{getD}
 use lib.Dec.{eqb}
 use Rattle.laws.proofs.Inverse.{undone-tells}
-use Rattle.numbers.specs.Refusal.{notRefused, badRecord, badArea, noConnection, tableFull, clockBack}
+use Rattle.numbers.specs.Refusal.{notRefused, badRecord, badArea, noConnection, clockBack}
 use Rattle.numbers.specs.Kind.{kindMore, kindMessage, kindNothing, kindNotification, kindUnchanged}
 use Rattle.answers.specs.Numbers.{clearingNumbers, openingNumbers, closingNumbers, tickingNumbers, deliveryNumbers, takingNumbers, resettingNumbers}
 use Rattle.answers.specs.Tell.{AnswersTell}

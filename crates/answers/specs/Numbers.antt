@@ -1,4 +1,4 @@
--- The numbers of each answer of the endpoint: its refusal alone, or that nothing was refused and what follows.
+-- R66. The numbers of each answer of the endpoint: its refusal alone, or that nothing was refused and what follows.
 use Prim.Native.Nat.{ℕ}
 use mathlib.Core.List.{List, [], _∷_}
 use lib.ListN.{getD}
@@ -21,24 +21,25 @@ use Rattle.answers.specs.declared.Resetting.{Resetting}
 use Rattle.answers.specs.declared.Resetting.the-variants as resetting
 use Rattle.answers.specs.declared.Numbers.{Numbers}
 
--- "The host's close and the zeroing call answer only that they were done"
+-- R66. The answers of clear.
 abbrev pub clearingNumbers : Clearing → List ℕ
 clearingNumbers clearing.Done = notRefused ∷ []
 clearingNumbers clearing.BadArea = badArea ∷ []
 
--- the number opened
+-- R66. The answers of open: the number opened.
 abbrev pub openingNumbers : Opening → List ℕ
 openingNumbers (opening.Number n) = notRefused ∷ n ∷ []
 openingNumbers opening.BadRecord = badRecord ∷ []
 openingNumbers opening.TableFull = tableFull ∷ []
 
+-- R66. The answers of close.
 abbrev pub closingNumbers : Closing → List ℕ
 closingNumbers closing.Done = notRefused ∷ []
 closingNumbers closing.BadRecord = badRecord ∷ []
 closingNumbers closing.BadArea = badArea ∷ []
 closingNumbers closing.NoConnection = noConnection ∷ []
 
--- "a byte, bit n set for connection n closed"
+-- R66. The answers of tick: the byte that names those closed.
 abbrev pub tickingNumbers : Ticking → List ℕ
 tickingNumbers (ticking.Closed mask) = notRefused ∷ mask ∷ []
 tickingNumbers ticking.BadRecord = badRecord ∷ []
@@ -46,7 +47,7 @@ tickingNumbers ticking.BadArea = badArea ∷ []
 tickingNumbers ticking.ClockBack = clockBack ∷ []
 tickingNumbers ticking.Overrun = overrun ∷ []
 
--- "more needed; a message, with the length of the reply written; or closed, with the fault", each with the bytes taken
+-- R66. The answers of deliver, each with the bytes taken.
 abbrev pub deliveryNumbers : Delivery → List ℕ
 deliveryNumbers (delivery.More taken) = notRefused ∷ kindMore ∷ taken ∷ []
 deliveryNumbers (delivery.Message taken length) = notRefused ∷ kindMessage ∷ taken ∷ length ∷ []
@@ -56,7 +57,7 @@ deliveryNumbers delivery.BadArea = badArea ∷ []
 deliveryNumbers delivery.NoConnection = noConnection ∷ []
 deliveryNumbers delivery.NoRoom = noRoom ∷ []
 
--- "writes one message and names its connection": a notification, a keep-alive, "else nothing"
+-- R66. The answers of take, with connection and length.
 abbrev pub takingNumbers : Taking → List ℕ
 takingNumbers taking.Nothing = notRefused ∷ kindNothing ∷ []
 takingNumbers (taking.Notification n length) = notRefused ∷ kindNotification ∷ n ∷ length ∷ []
@@ -64,16 +65,17 @@ takingNumbers (taking.KeepAlive n length) = notRefused ∷ kindKeepAlive ∷ n �
 takingNumbers taking.BadRecord = badRecord ∷ []
 takingNumbers taking.NoRoom = noRoom ∷ []
 
--- document 02 (ii), "the answer says which": nothing, or a reset
+-- R66. The answers of a datagram: nothing, or a reset.
 abbrev pub resettingNumbers : Resetting → List ℕ
 resettingNumbers resetting.Nothing = notRefused ∷ kindUnchanged ∷ []
 resettingNumbers resetting.Done = notRefused ∷ kindReset ∷ []
 resettingNumbers resetting.BadRecord = badRecord ∷ []
 resettingNumbers resetting.BadArea = badArea ∷ []
 
--- the numbers as fields: one that the answer does not have is 0
+-- R66. An answer's numbers as fields.
 abbrev pub numbersWith : ℕ → ℕ → ℕ → ℕ → Numbers
 numbersWith number first second third = record { number = number; first = first; second = second; third = third }
 
+-- R66. An answer's numbers, zeros behind them.
 unfoldable pub numbersOf : List ℕ → Numbers
 numbersOf a = numbersWith (getD a 0 0) (getD a 1 0) (getD a 2 0) (getD a 3 0)

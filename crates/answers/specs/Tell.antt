@@ -1,4 +1,4 @@
--- The numbers of an answer tell it from every other: document 01 'How tight the promises are', "Two results allowed by it are proved equal".
+-- R68. The numbers of an answer tell it from every other.
 use mathlib.Core.Path.{_≡_}
 use Rattle.answers.specs.Numbers.{clearingNumbers, openingNumbers, closingNumbers, tickingNumbers}
 use Rattle.answers.specs.Numbers.{deliveryNumbers, takingNumbers, resettingNumbers}
@@ -10,6 +10,7 @@ use Rattle.answers.specs.declared.Delivery.{Delivery}
 use Rattle.answers.specs.declared.Taking.{Taking}
 use Rattle.answers.specs.declared.Resetting.{Resetting}
 
+-- Theorem. No two answers of a call have the same numbers, and each call has one result.
 pub record AnswersTell : Type 0 where
   pub clearings : (a b : Clearing) → clearingNumbers a ≡ clearingNumbers b → a ≡ b
   pub openings : (a b : Opening) → openingNumbers a ≡ openingNumbers b → a ≡ b

@@ -1,4 +1,4 @@
--- What counts that obey and an area that row 2 does not refuse say of one connection. Assumes nothing.
+-- What counts that obey and an area that refusal 2 lets pass say of one connection. Assumes nothing.
 use Prim.Native.Nat.{ℕ, zero, suc, _+_, _-_, _≤_, _<_}
 use mathlib.Core.Path.{_≡_, sym, ap, _∙_}
 use mathlib.Core.Bool.{Bool, cond, true, false, not, true≢false}
@@ -18,7 +18,7 @@ use Rattle.frame.specs.Decide.{decide, settled}
 use Rattle.area.specs.Area.{partBytes, areaBytes, partAt, partSound, partsSound, areaSound, undecidedOf, countObeys, heldObeys}
 use Rattle.area.specs.Scaffold.{ZerosBehind, Lying}
 
--- an area that row 2 does not refuse is as long as it is to be
+-- an area that refusal 2 lets pass is as long as it is to be
 pub area-long : (held area : List ℕ) → areaSound held area ≡ true → length area ≡ areaBytes
 unfolding areaSound
 area-long held area e =

@@ -11,11 +11,11 @@ use Rattle.frame.specs.Decide.{decide, settled}
 use Rattle.frame.specs.Scaffold.{SoundAt}
 use Rattle.area.specs.Area.{partBytes, areaBytes, partAt, undecidedOf}
 
--- connection n's bytes behind its first u are zeros already
+-- Connection n's bytes behind its first u are zeros already.
 abbrev pub ZerosBehind : List ℕ → ℕ → ℕ → Type 0
 ZerosBehind area n u = take (partBytes - u) (drop (partAt n + u) area) ≡ zeros (partBytes - u)
 
--- what a piece is taken into: an area that row 2 does not refuse, and connection n's k bytes in it
+-- What a piece is taken into: an area that refusal 2 lets pass, and connection n's k bytes in it.
 pub record Lying (area : List ℕ) (n k : ℕ) : Type 0 where
   pub number : n < 8
   pub long : length area ≡ areaBytes
@@ -23,11 +23,11 @@ pub record Lying (area : List ℕ) (n k : ℕ) : Type 0 where
   pub waiting : settled (decide (undecidedOf area n k)) ≡ false
   pub zeroed : ZerosBehind area n k
 
--- the piece, as far as it fits, behind them
+-- The piece, as far as it fits, behind the k bytes of connection n.
 unfoldable pub gathered : List ℕ → ℕ → ℕ → List ℕ → List ℕ
 gathered area n k piece = sets area (partAt n + k) (take (partBytes - k) piece)
 
--- a sound message of t bytes at the front of connection n's part, of which k were there before; u bytes lie there
+-- A sound message of t bytes leads connection n's part, k of them from before; u bytes lie there.
 pub record MessageLies (area : List ℕ) (n k t u : ℕ) : Type 0 where
   pub number : n < 8
   pub long : length area ≡ areaBytes

@@ -15,7 +15,7 @@ pub const PART: usize = frame::LONGEST_MESSAGE;
 
 pub const AREA: usize = 16392;
 
-// A connection's part has held undecided bytes first, and zeros after.
+// R4. A connection's part has held undecided bytes in front, and zeros behind them.
 fn part_sound(part: &[u8], held: u16) -> bool
     requires { ⌜ length (now part) ≡ partBytes ⌝ }
     ensures { λ r. ⌜ r ≡ partSound held (now (part .entry)) ⌝ }
@@ -48,7 +48,7 @@ fn parts_sound(area: &[u8], held: [u16; 8]) -> bool
     true
 }
 
-// Row 2 does not apply to the area.
+// R63. Refusal 2 does not apply to the area.
 pub fn area_sound(area: &[u8], held: [u16; 8]) -> bool
     ensures { λ r. ⌜ r ≡ areaSound held (now (area .entry)) ⌝ }
 {

@@ -1,4 +1,4 @@
-// The examples of document 01 that are not starred, run by the calls of the endpoint, the reader and the writer: a line for each.
+// R83. The examples that are run, by the calls of the endpoint, the reader and the writer: a line for each.
 use answers::Delivery;
 use answers::Ticking;
 use endpoint::Record;

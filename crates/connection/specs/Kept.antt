@@ -11,11 +11,12 @@ use Rattle.connection.specs.Obeys.{connectionObeys}
 use Rattle.connection.specs.Supervision.{fitsStep, closesAt, connectionTicked, heardOf, sentOf, beatingOf, heartbeatKept}
 use Rattle.connection.specs.declared.Connection.{Connection}
 
--- the value fits its kind: "2 bytes of seconds, or 4 bytes of milliseconds"
+-- R15. The value fits the bytes of its form.
 unfoldable pub fitsForm : Heartbeat → Bool
 fitsForm (InSeconds s) = leb (s .0) greatestSeconds
 fitsForm (InMilliseconds m) = leb (m .0) greatestMilliseconds
 
+-- Theorem. R51 to R55 keep rules R61a to R61d, and a tick closes and counts exactly as R53 says.
 pub record SupervisionKept : Type 0 where
   -- the record rules
   pub shut : connectionObeys closed ≡ true
@@ -24,12 +25,12 @@ pub record SupervisionKept : Type 0 where
   pub hearing : (c : Connection) → connectionObeys c ≡ true → connectionObeys (heardOf c) ≡ true
   pub sending : (c : Connection) → connectionObeys c ≡ true → connectionObeys (sentOf c) ≡ true
   pub beating : (h : Heartbeat) (c : Connection) → fitsForm h ≡ true → c .live ≡ true → connectionObeys (beatingOf h c) ≡ true
-  -- a connection that obeys takes any step that row 6 lets pass
+  -- a connection that obeys takes any step that refusal 6 lets pass
   pub fitting : (step : ℕ) (c : Connection) → step < 2 ^ 31 → connectionObeys c ≡ true → fitsStep step c ≡ true
   -- a tick closes exactly what it says
   pub leaving : (step : ℕ) (c : Connection) → connectionTicked step c .live ≡ (c .live && not (closesAt step c))
   -- a tick that leaves a supervised connection open adds the step to its silence and keeps its H
   pub counting : (step : ℕ) (c : Connection) → eqb (c .beat) 0 ≡ false → closesAt step c ≡ false
       → (connectionTicked step c .silence ≡ c .silence + step) × (connectionTicked step c .beat ≡ c .beat)
-  -- "in the same form with the same value": what a due keep-alive carries is what was set
+  -- what a due keep-alive carries is what was set
   pub telling : (h : Heartbeat) (c : Connection) → eqb (beatOf h) 0 ≡ false → heartbeatKept (beatingOf h c) ≡ h

@@ -1,4 +1,4 @@
--- Supervision of a connection: document 01 'Time and supervision'.
+-- R32, R36, R52 to R55. Supervision of a connection.
 use Prim.Native.Nat.{ℕ, _+_, _*_, _/_}
 use mathlib.Core.Bool.{Bool, true, false, cond, not, _&&_}
 use lib.Dec.{eqb, leb}
@@ -9,19 +9,19 @@ use Rattle.connection.specs.Setters.{counted, supervised}
 use Rattle.connection.specs.State.{closed}
 use Rattle.connection.specs.declared.Connection.{Connection}
 
--- the greatest number of 64 bits
+-- R53. The greatest number of 64 bits.
 abbrev pub topCount : ℕ
 topCount = 18446744073709551615
 
--- row 7 Overrun, the other way round: silence and quiet plus step fit 64 bits
+-- R63. Refusal 7 does not apply to a connection: silence and quiet plus the step fit 64 bits.
 unfoldable pub fitsStep : ℕ → Connection → Bool
 fitsStep step c = leb (c .silence + step) topCount && leb (c .quiet + step) topCount
 
--- "While the heartbeat H is above zero, a tick adds the step to silence; at 3 × H or more the connection is closed"
+-- R53. With this step the silence comes to three heartbeats or more.
 unfoldable pub closesAt : ℕ → Connection → Bool
 closesAt step c = not (eqb (c .beat) 0) && leb (3 * c .beat) (c .silence + step)
 
--- "If it stays open and nothing is due, the step is added to quiet; at H or more, due is set and quiet becomes 0"
+-- R54. What a tick makes of quiet and due, where the connection stays open.
 unfoldable pub quietAfter : ℕ → Connection → Connection
 quietAfter step c =
     cond (c .due) c
@@ -29,30 +29,30 @@ quietAfter step c =
     (counted c (c .silence) 0 true)
     (counted c (c .silence) (c .quiet + step) false))
 
--- what a tick makes of a connection
+-- R52, R53, R54. What a tick makes of a connection.
 unfoldable pub connectionTicked : ℕ → Connection → Connection
 connectionTicked step c =
     cond (eqb (c .beat) 0) c
     (cond (closesAt step c) closed
     (quietAfter step (counted c (c .silence + step) (c .quiet) (c .due))))
 
--- "A sound message resets its connection's silence"
+-- R32. The connection was heard.
 unfoldable pub heardOf : Connection → Connection
 heardOf c = counted c 0 (c .quiet) (c .due)
 
--- "Anything the device sends on a connection clears quiet and due there"
+-- R55. Something was sent on the connection.
 unfoldable pub sentOf : Connection → Connection
 sentOf c = counted c (c .silence) 0 false
 
--- "A keep-alive received sets the heartbeat"; "zero stops supervision and clears form"
+-- R36. The form and H that a keep-alive sets; none for zero.
 unfoldable pub setBeat : Heartbeat → Connection → Connection
 setBeat h c = cond (eqb (beatOf h) 0) (supervised c 0 0) (supervised c (formOf h) (beatOf h))
 
--- a keep-alive is a sound message, and its answer is something sent: silence, quiet and due are cleared
+-- R36. A keep-alive is heard and its answer sent: silence, quiet and due are cleared.
 unfoldable pub beatingOf : Heartbeat → Connection → Connection
 beatingOf h c = sentOf (heardOf (setBeat h c))
 
--- "a keep-alive, in its form and with its H"
+-- R49. The heartbeat of a connection's own form and H.
 unfoldable pub heartbeatKept : Connection → Heartbeat
 heartbeatKept c =
     cond (eqb (c .form) secondsForm) (InSeconds (record { 0 = c .beat / 1000 })) (InMilliseconds (record { 0 = c .beat }))

@@ -130,7 +130,7 @@ same : (d : Device) (n k : ℕ) → eqb k n ≡ false → getD (closeOf d n .con
 unfolding closeOf sweepOf
 same d n k e = getD-set-other (d .connections) n k closed closed (eqb-false k n e)
 
--- ---- the paper's words
+-- ---- the closure in the words of R60
 free-as : (cs : List Connection) (n : ℕ) (s : Subscription) → entryObeys cs s ≡ true → sweptOf (set cs n closed) s ≡ cond (isEntryOf n s) free s
 unfolding sweptOf isEntryOf
 free-as cs n s o = ⊎-elim idle (λ (k : Sound cs s). busy k (eqb (s .connection) n) refl) (entry-view cs s o)

@@ -223,7 +223,7 @@ module _ (d : Device) (n : ℕ) (part : List ℕ) where
           rw (e, place-is x s es i ei l) (ran-done d n 4 removeMethod 2 part (remove-status f ∙ rw (← q, t, held-is x s es i ei l h)))
 
 -- ---- the mechanism
--- "4 for wrong count or lengths, then 7 for the text or port 0": the status of 3.14 hangs on no device
+-- R71, R73. The status of 3.14 hangs on no device
 pub arm-status : (d : Device) (n count : ℕ) (part : List ℕ) → statusOf d n 1 resetKeyMethod count part ≡ cond (isMalformed resetKeyMethod count part) 4 (cond (isUntaken part) 7 0)
 unfolding statusOf firstStatus laterStatus isObject isManager hasMethod isTelling isLocking isMuting isForbidden isHeldByOther isEmitterBad isSubscribing isValueBad isOutOfTurn isFull
 arm-status d n count part = go (isMalformed resetKeyMethod count part)

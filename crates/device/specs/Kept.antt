@@ -1,4 +1,4 @@
--- What every call keeps: document 01 'Time and supervision', "After every call the record rules hold".
+-- R41, R62. What every call keeps of the device.
 use Prim.Native.Nat.{ℕ, _^_}
 use mathlib.Core.Path.{_≡_}
 use mathlib.Core.Bool.{true, false}
@@ -17,7 +17,7 @@ use Rattle.device.specs.Time.{stepOf, tickOf}
 use Rattle.device.specs.Run.{statusOf, unchanged, runOf}
 use Rattle.device.specs.declared.Device.{Device}
 
--- the record rules
+-- Theorem. Fresh keeps the record rules, and so do opening, closing, ticking, hearing, sending and each command.
 pub record RulesKept : Type 0 where
   pub fresh : (reading : ℕ) → deviceObeys (freshOf reading) ≡ true
   pub opening : (d : Device) → deviceObeys d ≡ true → deviceObeys (openOf d .device) ≡ true
@@ -29,11 +29,11 @@ pub record RulesKept : Type 0 where
   pub beating : (d : Device) (n : ℕ) (h : Heartbeat) → fitsForm h ≡ true → deviceObeys d ≡ true → deviceObeys (beatingAt d n h) ≡ true
   pub running : (d : Device) (n target m count : ℕ) (part : List ℕ) → liveAt (d .connections) n ≡ true → deviceObeys d ≡ true
       → deviceObeys (runOf d n target m count part .device) ≡ true
-  -- row 7 never applies to a record that obeys
+  -- refusal 7 never applies to a record that obeys
   pub fitting : (d : Device) (reading : ℕ) → deviceObeys d ≡ true → leb (2 ^ 31) (stepOf reading (d .reading)) ≡ false
       → all (fitsStep (stepOf reading (d .reading))) (d .connections) ≡ true
 
--- "Statuses other than 0 carry no parameters and change nothing"
+-- Theorem. A command whose status is not 0 carries no parameters and changes nothing.
 pub record FailuresChangeNothing : Type 0 where
   pub failing : (d : Device) (n target m count : ℕ) (part : List ℕ) → eqb (statusOf d n target m count part) carriedOut ≡ false
       → runOf d n target m count part ≡ unchanged d (failedOf (statusOf d n target m count part))

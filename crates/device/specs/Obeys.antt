@@ -1,5 +1,4 @@
--- The record rules of a device: document 01 'What calls refuse', "Record rules", all but those of the undecided bytes; document 02
--- (ii), of the mechanism.
+-- R61. The record rules of a device: all but R61e.
 use mathlib.Core.Bool.{Bool, _&&_}
 use Rattle.laws.specs.Lists.{all, allPairs}
 use Rattle.mechanism.specs.Obeys.{mechanismObeys}
@@ -9,6 +8,7 @@ use Rattle.objects.specs.Tests.{isMuteValue}
 use Rattle.holders.specs.Holders.{holderObeys}
 use Rattle.device.specs.declared.Device.{Device}
 
+-- R61. The device keeps all record rules but R61e.
 unfoldable pub deviceObeys : Device → Bool
 deviceObeys d =
     all connectionObeys (d .connections) && all (entryObeys (d .connections)) (d .subscriptions) && allPairs apart (d .subscriptions)

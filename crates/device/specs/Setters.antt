@@ -1,4 +1,4 @@
--- A device with one part changed, the only place but `freshOf` that names every field: no rule is here.
+-- A device with one part changed, the only place but fresh that names every field: no rule is here.
 use Prim.Native.Nat.{ℕ}
 use mathlib.Core.List.{List}
 use Rattle.connection.specs.declared.Connection.{Connection}
@@ -6,7 +6,7 @@ use Rattle.mechanism.specs.declared.Mechanism.{Mechanism}
 use Rattle.subscription.specs.declared.Subscription.{Subscription}
 use Rattle.device.specs.declared.Device.{Device}
 
--- another reading
+-- A device with another reading.
 abbrev pub withReading : Device → ℕ → Device
 withReading d reading =
     record {
@@ -18,7 +18,7 @@ withReading d reading =
       mechanism = d .mechanism;
     }
 
--- other connections
+-- A device with other connections.
 abbrev pub withConnections : Device → List Connection → Device
 withConnections d connections =
     record {
@@ -30,7 +30,7 @@ withConnections d connections =
       mechanism = d .mechanism;
     }
 
--- other entries
+-- A device with other subscription entries.
 abbrev pub withSubscriptions : Device → List Subscription → Device
 withSubscriptions d subscriptions =
     record {
@@ -42,7 +42,7 @@ withSubscriptions d subscriptions =
       mechanism = d .mechanism;
     }
 
--- other values of the mutes
+-- A device with other mutes.
 abbrev pub withMutes : Device → List ℕ → Device
 withMutes d mutes =
     record {
@@ -54,7 +54,7 @@ withMutes d mutes =
       mechanism = d .mechanism;
     }
 
--- other holders of the locks
+-- A device with other holders.
 abbrev pub withHolders : Device → List ℕ → Device
 withHolders d holders =
     record {
@@ -66,7 +66,7 @@ withHolders d holders =
       mechanism = d .mechanism;
     }
 
--- another mechanism
+-- A device with another mechanism.
 abbrev pub withMechanism : Device → Mechanism → Device
 withMechanism d mechanism =
     record {

@@ -1,4 +1,4 @@
--- The device: fresh, opening, closing. Document 01 'What is built' and 'Time and supervision'.
+-- R3, R57, R58, R60. The device: fresh, opening, closing, and what is heard and sent.
 use Prim.Native.Nat.{ℕ}
 use mathlib.Core.Bool.{Bool, cond}
 use mathlib.Core.List.{List, map}
@@ -19,11 +19,11 @@ use Rattle.device.specs.declared.Opening.the-variants.{Number, Full}
 use Rattle.device.specs.declared.Closed.{Closed}
 use Rattle.device.specs.declared.Closing.the-variants.{Done, NotOpen}
 
--- "8 mutes"
+-- R3. There are eight mutes.
 abbrev pub muteCount : ℕ
 muteCount = 8
 
--- "Fresh takes a first reading": "every connection closed, no lock and every entry free"; document 02 (ii), "the mechanism disarmed"
+-- R57. The fresh device at a first reading.
 unfoldable pub freshOf : ℕ → Device
 freshOf reading =
     record {
@@ -35,11 +35,11 @@ freshOf reading =
       mechanism = disarmed;
     }
 
--- of each connection, whether it is open
+-- R3. Of each connection, whether it is open.
 unfoldable pub livesIn : Device → List Bool
 livesIn d = map isLive (d .connections)
 
--- "Opening gives the lowest free number with all counts zero"; "TableFull: opening with 8 open"
+-- R58. Opening: the lowest free number, or none.
 unfoldable pub openOf : Device → Opened
 openOf d =
     cond (any isNotOpen (d .connections))
@@ -49,36 +49,36 @@ openOf d =
     })
     (record { device = d; answer = Full })
 
--- whatever belongs to a connection that is not open is freed
+-- R60. Whatever belongs to a connection that is not open is freed.
 unfoldable pub sweepOf : Device → Device
 sweepOf d =
     withHolders (withSubscriptions d (map (sweptOf (d .connections)) (d .subscriptions)))
     (map (sweptHolder (d .connections)) (d .holders))
 
--- "A closure frees the connection's locks, entries and waiting marks, clears its counts"
+-- R60. The closure of connection n.
 unfoldable pub closeOf : Device → ℕ → Device
 closeOf d n = sweepOf (withConnections d (set (d .connections) n closed))
 
--- the device closed, and whether there was a connection to close
+-- R59, R60. The closure of connection n, and whether there was a connection to close.
 unfoldable pub closingOf : Device → ℕ → Closed
 closingOf d n = record { device = closeOf d n; answer = cond (liveAt (d .connections) n) Done NotOpen }
 
--- connection n changed by f; a number past the last changes nothing
+-- R3. Connection n changed by f; a number past the last changes nothing.
 abbrev pub atConnection : (Connection → Connection) → Device → ℕ → Device
 atConnection f d n = withConnections d (set (d .connections) n (f (getD (d .connections) n closed)))
 
--- "A sound message resets its connection's silence"
+-- R32. Connection n was heard.
 unfoldable pub heardAt : Device → ℕ → Device
 heardAt d n = atConnection heardOf d n
 
--- "Anything the device sends on a connection clears quiet and due there"
+-- R55. Something was sent on connection n.
 unfoldable pub sentAt : Device → ℕ → Device
 sentAt d n = atConnection sentOf d n
 
--- "Taking sends the value of that moment, once": the entry at a place waits no more
+-- R50. The entry at a place waits no more.
 unfoldable pub toldAt : Device → ℕ → Device
 toldAt d at = withSubscriptions d (set (d .subscriptions) at (toldOf (getD (d .subscriptions) at free)))
 
--- "A keep-alive received sets the heartbeat", on an open connection
+-- R36. A keep-alive of connection n, if that is open.
 unfoldable pub beatingAt : Device → ℕ → Heartbeat → Device
 beatingAt d n h = cond (liveAt (d .connections) n) (atConnection (beatingOf h) d n) d

@@ -1,4 +1,4 @@
--- A tick: document 01 'Time and supervision' and rows 6 and 7 of 'What calls refuse'.
+-- R51, R56. A tick.
 use Prim.Native.Nat.{ℕ, _+_, _-_, _%_, _^_}
 use mathlib.Core.Bool.{cond}
 use mathlib.Core.List.{List, map}
@@ -12,16 +12,15 @@ use Rattle.device.specs.declared.Device.{Device}
 use Rattle.device.specs.declared.Ticked.{Ticked}
 use Rattle.device.specs.declared.Ticking.the-variants.{Closed, ClockBack, Overrun}
 
--- "The step is this reading less the last, modulo 2^32"
+-- R51. The step of a reading from the last one.
 abbrev pub stepOf : ℕ → ℕ → ℕ
 stepOf reading last = (reading + 2 ^ 32 - last) % 2 ^ 32
 
--- the device at a reading, with these connections
+-- R51. The device at a reading, with these connections.
 abbrev pub advanced : Device → ℕ → List Connection → Device
 advanced d reading cs = withConnections (withReading d reading) cs
 
--- "6 ClockBack: step of 2^31 or more", "7 Overrun: silence or quiet plus step does not fit 64 bits";
--- "The tick's answer is a byte, bit n set for connection n closed"
+-- R56. A tick by its step: 6, then 7, else every connection ticked and those closed named.
 unfoldable pub tickStep : Device → ℕ → ℕ → Ticked
 tickStep d reading step =
     cond (leb (2 ^ 31) step)
@@ -33,5 +32,6 @@ tickStep d reading step =
     })
     (record { device = d; answer = Overrun }))
 
+-- R56. A tick at a reading.
 abbrev pub tickOf : Device → ℕ → Ticked
 tickOf d reading = tickStep d reading (stepOf reading (d .reading))

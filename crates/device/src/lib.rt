@@ -62,7 +62,7 @@ pub struct Ran {
     pub answer: Answer,
 }
 
-// This reading less the last, modulo 2^32.
+// R51. The step: one subtraction that goes round.
 fn since(reading: u32, last: u32) -> u32
     ensures { λ r. ⌜ r ≡ stepOf reading last ⌝ }
 {

@@ -1,18 +1,20 @@
--- Texts and what they say: document 02 (ii), "each part 0 to 255 without leading zeros".
+-- R72. Texts and what they say.
 use Prim.Native.Nat.{ℕ}
 use mathlib.Core.Path.{_≡_}
 use mathlib.Core.List.{List, [], _∷_, map}
 use Rattle.dotted.specs.declared.Dotted.{Dotted}
 use Rattle.dotted.specs.Text.{notDotted, dottedAs, dottedOf}
 
--- a text, and what it says
+-- R72. A text, and what it says.
 pub record TextRow : Type 0 where
   pub text : List ℕ
   pub says : Dotted
 
+-- R72. A row of the table.
 abbrev pub textRow : List ℕ → Dotted → TextRow
 textRow t d = record { text = t; says = d }
 
+-- R72. Texts at the limits of what is taken.
 unfoldable pub textTable : List TextRow
 textTable =
     -- the empty text
@@ -81,6 +83,6 @@ textTable =
     textRow (50 ∷ 53 ∷ 53 ∷ 46 ∷ 50 ∷ 53 ∷ 53 ∷ 46 ∷ 50 ∷ 53 ∷ 53 ∷ 46 ∷ 50 ∷ 53 ∷ 53 ∷ []) (dottedAs 255 255 255 255) ∷
     []
 
--- each text says what its row tells
+-- Theorem. Each text says what its row tells.
 pub record TextsTold : Type 0 where
   pub told : map (λ (r : TextRow). dottedOf (r .text)) textTable ≡ map (λ (r : TextRow). r .says) textTable

@@ -1,4 +1,4 @@
--- Opening, closing, ticking and clearing: document 01 'Time and supervision' and 'What calls refuse'.
+-- R56 to R60, R67. Opening, closing, ticking and clearing.
 use Prim.Native.Nat.{ℕ}
 use mathlib.Core.Bool.{cond}
 use mathlib.Core.List.{List, []}
@@ -25,22 +25,24 @@ use Rattle.numbers.specs.Refusal.{badRecord, badArea, noConnection, tableFull, 
 use Rattle.endpoint.specs.Outcome.{Outcome, outcome, refused}
 use Rattle.endpoint.specs.declared.Record.{Record}
 
--- "The call that zeros an area refuses only by its length": its answer, and the area
+-- R64, R67. The answer of clear: 2, else done.
 unfoldable pub clearAnswer : List ℕ → List ℕ
 clearAnswer area = cond (eqb (length area) areaBytes) (clearingNumbers clearing.Done) (clearingNumbers clearing.BadArea)
 
+-- R67. The area after clear.
 unfoldable pub clearedArea : List ℕ → List ℕ
 clearedArea area = cond (eqb (length area) areaBytes) (zeros areaBytes) area
 
--- "Opening gives the lowest free number with all counts zero"; "5 TableFull: opening with 8 open"
+-- R58. Opening, by what the device gives.
 unfoldable pub openedBy : Opening → Record → Opened → Outcome
 openedBy (opens.Number n) r o = outcome (openingNumbers (opening.Number n)) (stateOf (o .device) (r .held)) [] []
 openedBy opens.Full r o = refused tableFull r [] []
 
+-- R58, R64. Open: 1, then 5, else the number opened.
 unfoldable pub openCall : Record → Outcome
 openCall r = cond (recordObeys r) (openedBy (openOf (r .device) .answer) r (openOf (r .device))) (refused badRecord r [] [])
 
--- the host's close
+-- R59, R64. Close: 1, then 2, then 3, else the closure.
 unfoldable pub closeCall : Record → List ℕ → ℕ → Outcome
 closeCall r area n =
     cond (recordObeys r)
@@ -51,7 +53,7 @@ closeCall r area n =
     (refused badArea r area []))
     (refused badRecord r area [])
 
--- a tick: whoever is then not open has no count and no byte
+-- R56. A tick by what the device gives: whoever is then not open has no count and no byte.
 unfoldable pub tickedBy : Ticking → Record → Ticked → List ℕ → Outcome
 tickedBy (ticks.Closed mask) r t area =
     outcome (tickingNumbers (ticking.Closed mask))
@@ -59,6 +61,7 @@ tickedBy (ticks.Closed mask) r t area =
 tickedBy ticks.ClockBack r t area = refused clockBack r area []
 tickedBy ticks.Overrun r t area = refused overrun r area []
 
+-- R56, R64. Tick: 1, then 2, then 6, then 7, else the connections that it closed.
 unfoldable pub tickCall : Record → List ℕ → ℕ → Outcome
 tickCall r area reading =
     cond (recordObeys r)

@@ -1,4 +1,4 @@
--- A delivery: document 01 'Delivering' and 'What calls refuse'.
+-- R28 to R31. A delivery.
 use Prim.Native.Nat.{ℕ}
 use mathlib.Core.Bool.{cond}
 use mathlib.Core.List.{List}
@@ -13,15 +13,15 @@ use Rattle.endpoint.specs.State.{stateOf, recordObeys}
 use Rattle.endpoint.specs.Outcome.{Outcome, outcome, refused}
 use Rattle.endpoint.specs.declared.Record.{Record}
 
--- the count of connection n's undecided bytes
+-- R3. The count of connection n's undecided bytes.
 abbrev pub heldAt : Record → ℕ → ℕ
 heldAt r n = getD (r .held) n 0
 
--- what a piece of connection n came to, in the record
+-- R28. What a delivery gives: the intake, with connection n's count in the record.
 abbrev pub withIntake : Record → ℕ → Intake → Outcome
 withIntake r n i = outcome (i .answer) (stateOf (i .device) (set (r .held) n (i .count))) (i .area) (i .output)
 
--- "Delivery, close and tick are lent record and area"; "The lowest applying number is given"
+-- R28, R64. Deliver: 1, then 2, then 3, then 4, else what the bytes decide.
 unfoldable pub deliverCall : Record → List ℕ → ℕ → List ℕ → List ℕ → Outcome
 deliverCall r area n piece out =
     cond (recordObeys r)

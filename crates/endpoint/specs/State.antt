@@ -1,4 +1,4 @@
--- The endpoint's record and its rules: document 01 'What is built' and 'What calls refuse', "Record rules".
+-- R3, R57, R60, R61. The endpoint's record and its rules.
 use Prim.Native.Nat.{ℕ}
 use mathlib.Core.Bool.{Bool, _&&_}
 use mathlib.Core.List.{List}
@@ -11,17 +11,18 @@ use Rattle.device.specs.Obeys.{deviceObeys}
 use Rattle.device.specs.declared.Device.{Device}
 use Rattle.endpoint.specs.declared.Record.{Record}
 
+-- R3. A device and the counts, as a record.
 abbrev pub stateOf : Device → List ℕ → Record
 stateOf d held = record { device = d; held = held }
 
--- "Fresh takes a first reading; its record keeps the record rules, with every connection closed"
+-- R57. The fresh record at a first reading.
 unfoldable pub freshState : ℕ → Record
 freshState reading = stateOf (freshOf reading) (zeros connectionCount)
 
--- "1 BadRecord: a record rule is broken", the other way round
+-- R61. All record rules hold: refusal 1 does not apply.
 unfoldable pub recordObeys : Record → Bool
 recordObeys r = deviceObeys (r .device) && heldObeys (livesIn (r .device)) (r .held)
 
--- "A closure frees the connection's locks, entries and waiting marks, clears its counts and zeros its area": the record's part
+-- R60. The record after the closure of connection n.
 unfoldable pub closedState : Record → ℕ → Record
 closedState r n = stateOf (closeOf (r .device) n) (set (r .held) n 0)

@@ -1,4 +1,4 @@
--- Taking: document 01 'Our objects', "Take writes one message and names its connection", and 'What calls refuse'.
+-- R49, R50. Taking.
 use Prim.Native.Nat.{ℕ}
 use mathlib.Core.Bool.{cond}
 use mathlib.Core.List.{List, []}
@@ -11,10 +11,11 @@ use Rattle.endpoint.specs.State.{stateOf, recordObeys}
 use Rattle.endpoint.specs.Outcome.{Outcome, outcome, refused}
 use Rattle.endpoint.specs.declared.Record.{Record}
 
--- what a taking came to, in the record
+-- R50. What a take gives: the dispatch, with the record's counts as they were.
 abbrev pub withDispatch : Record → Dispatch → Outcome
 withDispatch r s = outcome (s .answer) (stateOf (s .device) (r .held)) [] (s .output)
 
+-- R49, R64. Take: 1, then 4, else one message or nothing.
 unfoldable pub takeCall : Record → List ℕ → Outcome
 takeCall r out =
     cond (recordObeys r)

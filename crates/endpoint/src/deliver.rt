@@ -34,7 +34,7 @@ impl Record {
         }
     }
 
-    // A piece of connection n's bytes: taken up to and including the first deciding byte.
+    // R28. A piece of connection n's bytes: taken as far as the first byte that decides.
     pub fn deliver(self, area: &mut [u8], n: u8, piece: &[u8], output: &mut [u8]) -> Delivered
         ensures { λ r. ⌜ outcome (deliveryNumbers (r .answer)) (r .state) (now (area .exit)) (now (output .exit))
             ≡ deliverCall self (now (area .entry)) n (now (piece .entry)) (now (output .entry)) ⌝ }

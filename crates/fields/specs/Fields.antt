@@ -1,4 +1,4 @@
--- The fields of an entry and of a keep-alive, in the order of the table of document 01 'The wire'.
+-- R9, R10, R15. The fields of an entry, and the heartbeat of a keep-alive.
 use Prim.Native.Nat.{ℕ, _+_}
 use mathlib.Core.List.{List}
 use mathlib.Core.Bool.{cond}
@@ -16,11 +16,11 @@ use Rattle.fields.specs.declared.CommandFields.{CommandFields}
 use Rattle.fields.specs.declared.NotificationFields.{NotificationFields}
 use Rattle.fields.specs.declared.ResponseFields.{ResponseFields}
 
--- "A method or event is level 2, index 2"
+-- R10. The method or event at a place of an entry.
 unfoldable pub methodAt : List ℕ → ℕ → Method
 methodAt e at = record { level = be16At e at; index = be16At e (at + 2) }
 
--- "size 4, handle 4, target 4, method 4, parameter count 1"
+-- R9. The fields of a command.
 unfoldable pub commandOf : List ℕ → CommandFields
 commandOf e =
     record {
@@ -30,7 +30,7 @@ commandOf e =
       count = getD e commandCountPlace 0;
     }
 
--- "size 4, target 4, method 4, parameter count 1, context 4, emitter 4, event 4"
+-- R9. The fields of a notification.
 unfoldable pub notificationOf : List ℕ → NotificationFields
 notificationOf e =
     record {
@@ -42,11 +42,11 @@ notificationOf e =
       event = methodAt e eventPlace;
     }
 
--- "size 4, handle 4, status 1, parameter count 1"
+-- R9. The fields of a response.
 unfoldable pub responseOf : List ℕ → ResponseFields
 responseOf e = record { handle = be32At e handlePlace; status = getD e statusPlace 0; count = getD e responseCountPlace 0 }
 
--- a keep-alive's data: "the length of the data tells which"
+-- R15. The heartbeat of a keep-alive's data, told by its length.
 unfoldable pub heartbeatOf : List ℕ → Heartbeat
 heartbeatOf t =
     cond (eqb (length t) secondsBytes) (InSeconds (record { 0 = be16At t 0 })) (InMilliseconds (record { 0 = be32At t 0 }))

@@ -5,8 +5,8 @@ use mathlib.Core.Bool.{Bool, true, false, true≢false}
 use mathlib.Core.List.{List, [], _++_}
 use native.Mathlib.Omega.{arith}
 use native.Mathlib.Decide.{decLe}
-use lib.ListN.{length, take, drop, take-append-drop, length-take}
-use lib.Seq.{take-append-le, take-append-add, length-take-le}
+use lib.ListN.{length, take, drop, take-append-drop}
+use lib.Seq.{take-append-le, take-append-add}
 use Rattle.frame.specs.Decide.{decide, taken, settled}
 use Rattle.frame.proofs.Ways.{deciding}
 

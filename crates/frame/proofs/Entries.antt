@@ -1,18 +1,18 @@
 -- Laws of the entry and of the walk. Assumes nothing.
 use Prim.Native.Nat.{ℕ, zero, suc, _+_, _-_, _*_, _≤_, _<_}
-use mathlib.Core.Path.{_≡_, refl, sym, ap, _∙_}
-use mathlib.Core.List.{List, [], _∷_, _++_}
+use mathlib.Core.Path.{_≡_, refl, sym}
+use mathlib.Core.List.{List}
 use mathlib.Core.Bool.{Bool, cond, true, false, false≢true}
 use native.Mathlib.Omega.{arith}
 use native.Mathlib.Numerals.{sub-one}
 use native.Mathlib.Nat.{not-suc-le-zero}
 use lib.Dec.{ltb, eqb}
-use lib.ListN.{length, take, drop, getD, length-drop}
+use lib.ListN.{length, drop, getD, length-drop}
 use borrow.Author.Tests.{eq-eqb, ne-eqb, lt-ltb, le-ltb, ltb-false, eqb-false}
 use Rattle.laws.proofs.Conds.{cond-left, cond-right}
 use Rattle.octets.specs.Numbers.{be32At}
 use Rattle.frame.specs.Limits.{notification, leastCommand, leastNotification, leastResponse}
-use Rattle.frame.specs.Entry.{leastEntry, countPlace, leastCount, countFits, entryFits, entrySize, entriesFill}
+use Rattle.frame.specs.Entry.{leastEntry, countPlace, entryFits, entrySize, entriesFill}
 
 -- the parameter count stands before the parameters, behind the size
 pub least-holds : (k : ℕ) → (10 ≤ leastEntry k) × (leastEntry k ≤ 25) × (countPlace k < leastEntry k)

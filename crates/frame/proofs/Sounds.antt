@@ -1,20 +1,20 @@
 -- What a sound message is, both ways. Assumes nothing.
-use Prim.Native.Nat.{ℕ, _+_, _≤_, _<_}
-use mathlib.Core.Path.{_≡_, refl, sym, ap, _∙_}
+use Prim.Native.Nat.{ℕ, _≤_}
+use mathlib.Core.Path.{_≡_, sym, ap, _∙_}
 use mathlib.Core.List.{List}
-use mathlib.Core.Bool.{Bool, cond, true, false, true≢false}
+use mathlib.Core.Bool.{true, false, true≢false}
 use native.Mathlib.Omega.{arith}
-use lib.ListN.{length, take, drop, getD}
+use lib.ListN.{length, take, drop}
 use lib.Seq.{getD-take, length-take-le}
 use Rattle.octets.specs.Numbers.{be16At, be32At}
 use Rattle.laws.proofs.Conds.{cond-left}
 use Rattle.numbers.specs.Fault.{faultData}
 use Rattle.frame.specs.Limits.{headerEnd}
-use Rattle.frame.specs.Header.{pduSize, pduType, messageCount, messageLength, headerFault}
+use Rattle.frame.specs.Header.{pduSize, pduType, messageCount, messageLength}
 use Rattle.frame.specs.Decide.{dataSound, decideData, decide, settled}
 use Rattle.frame.specs.Scaffold.{SoundAt}
 use Rattle.frame.specs.declared.Decision.{Decision}
-use Rattle.frame.specs.declared.Decision.the-variants.{Undecided, Faulty, Sound}
+use Rattle.frame.specs.declared.Decision.the-variants.{Faulty, Sound}
 use Rattle.frame.proofs.Headers.{sound-header}
 use Rattle.frame.proofs.Ways.{Way, none, start, few, header, part, whole, way, way-back}
 

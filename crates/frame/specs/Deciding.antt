@@ -1,4 +1,4 @@
--- What a stream of messages needs of the deciding byte.
+-- R18. What a stream of messages needs of the deciding byte.
 use Prim.Native.Nat.{ℕ, _≤_, _<_}
 use mathlib.Core.Path.{_≡_}
 use mathlib.Core.Bool.{true}
@@ -8,6 +8,7 @@ use Rattle.frame.specs.Limits.{greatestSize}
 use Rattle.frame.specs.Decide.{decide, taken, settled}
 use Rattle.frame.specs.declared.Decision.the-variants.{Undecided}
 
+-- Theorem. A deciding byte is one byte, the same whatever follows, and comes by the 2,049th.
 pub record Deciding : Type 0 where
   -- a decision takes at least one byte, and at most those there
   pub some : (s : List ℕ) → settled (decide s) ≡ true → 0 < taken (decide s)

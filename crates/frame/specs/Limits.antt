@@ -1,55 +1,62 @@
--- The numbers of document 01 'The wire', each once, by name.
+-- R7 to R9, R13. The numbers of the wire, each once, by name.
 use Prim.Native.Nat.{ℕ, _+_}
 
--- "A message is the byte 3B, a 9-byte header, then data"
+-- R7. The byte that starts a message.
 abbrev pub sync : ℕ
 sync = 0x3B
 
--- the 3B and the header
+-- R7. The 3B and the header.
 abbrev pub headerEnd : ℕ
 headerEnd = 10
 
--- "protocolVersion 2 bytes (always 1)"
+-- R7. The only protocolVersion.
 abbrev pub version : ℕ
 version = 1
 
--- "pduSize runs from 9 to 2,048"
+-- R8. The least pduSize: a header and no data.
 abbrev pub leastSize : ℕ
 leastSize = 9
 
+-- R8. The greatest pduSize of what is received or written by the writer.
 abbrev pub greatestSize : ℕ
 greatestSize = 2048
 
--- with its 3B
+-- R8. The longest message, which counts its 3B.
 abbrev pub longestMessage : ℕ
 longestMessage = greatestSize + 1
 
--- the types, 0 to 4
+-- R9. The type of a command that wants a reply; that of one that wants none is 0.
 abbrev pub commandWantingReply : ℕ
 commandWantingReply = 1
 
+-- R9. The type of a notification.
 abbrev pub notification : ℕ
 notification = 2
 
+-- R9. The type of a response.
 abbrev pub response : ℕ
 response = 3
 
+-- R9. The type of a keep-alive, the last.
 abbrev pub keepAlive : ℕ
 keepAlive = 4
 
--- the least entry of each type
+-- R9. The least command.
 abbrev pub leastCommand : ℕ
 leastCommand = 17
 
+-- R9. The least notification.
 abbrev pub leastNotification : ℕ
 leastNotification = 25
 
+-- R9. The least response.
 abbrev pub leastResponse : ℕ
 leastResponse = 10
 
--- a keep-alive's data: "2 bytes of seconds, or 4 bytes of milliseconds"
+-- R15. The bytes of a heartbeat in seconds.
 abbrev pub secondsBytes : ℕ
 secondsBytes = 2
 
+-- R15. The bytes of a heartbeat in milliseconds.
 abbrev pub millisecondsBytes : ℕ
 millisecondsBytes = 4

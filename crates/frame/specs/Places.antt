@@ -1,55 +1,66 @@
--- Where the fields stand, each place once: of the header in a message, of an entry in its bytes.
+-- R7, R9. Where the fields stand, each place once: of the header in a message, of an entry in its bytes.
 use Prim.Native.Nat.{ℕ}
 
--- the header, behind the 3B
+-- R7. Where protocolVersion stands.
 abbrev pub versionPlace : ℕ
 versionPlace = 1
 
+-- R7. Where pduSize stands.
 abbrev pub sizePlace : ℕ
 sizePlace = 3
 
+-- R7. Where pduType stands.
 abbrev pub typePlace : ℕ
 typePlace = 7
 
+-- R7. Where messageCount stands.
 abbrev pub messageCountPlace : ℕ
 messageCountPlace = 8
 
--- an entry starts with its size; in a command and in a response its handle follows
+-- R9. Where the handle of a command or a response stands.
 abbrev pub handlePlace : ℕ
 handlePlace = 4
 
--- a command
+-- R9. Where a command's target stands.
 abbrev pub commandTargetPlace : ℕ
 commandTargetPlace = 8
 
+-- R9. Where a command's method stands.
 abbrev pub commandMethodPlace : ℕ
 commandMethodPlace = 12
 
+-- R9. Where a command's parameter count stands.
 abbrev pub commandCountPlace : ℕ
 commandCountPlace = 16
 
--- a notification, which has no handle
+-- R9. Where a notification's target stands.
 abbrev pub notificationTargetPlace : ℕ
 notificationTargetPlace = 4
 
+-- R9. Where a notification's method stands.
 abbrev pub notificationMethodPlace : ℕ
 notificationMethodPlace = 8
 
+-- R9. Where a notification's parameter count stands.
 abbrev pub notificationCountPlace : ℕ
 notificationCountPlace = 12
 
+-- R9. Where a notification's context stands.
 abbrev pub contextPlace : ℕ
 contextPlace = 13
 
+-- R9. Where a notification's emitter stands.
 abbrev pub emitterPlace : ℕ
 emitterPlace = 17
 
+-- R9. Where a notification's event stands.
 abbrev pub eventPlace : ℕ
 eventPlace = 21
 
--- a response
+-- R9. Where a response's status stands.
 abbrev pub statusPlace : ℕ
 statusPlace = 8
 
+-- R9. Where a response's parameter count stands.
 abbrev pub responseCountPlace : ℕ
 responseCountPlace = 9

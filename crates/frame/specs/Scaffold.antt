@@ -8,7 +8,7 @@ use Rattle.frame.specs.Limits.{sync, headerEnd}
 use Rattle.frame.specs.Header.{pduType, messageCount, messageLength, headerFault}
 use Rattle.frame.specs.Decide.{dataSound}
 
--- a sound message of n bytes at the front of s
+-- R16. A sound message of n bytes stands at the front of s.
 pub record SoundAt (s : List ℕ) (n : ℕ) : Type 0 where
   pub first : getD s 0 0 ≡ sync
   pub header : headerFault s ≡ 0

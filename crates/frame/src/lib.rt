@@ -189,7 +189,7 @@ pub fn entries_fill(body: &[u8], kind: u8, count: u16) -> bool
     t.len() == 0
 }
 
-// The bytes are exactly one entry of that type, 0 to 3.
+// R14. The bytes are one entry of that type, 0 to 3, and nothing more.
 pub fn well_formed(kind: u8, e: &[u8]) -> bool
     ensures { λ r. ⌜ r ≡ wellFormed kind (now (e .entry)) ⌝ }
 {

@@ -1,4 +1,4 @@
-// A heartbeat's value. Seconds and milliseconds are kept apart by kind: only the conversion by 1,000 turns one into the other.
+// R15. A heartbeat's value: a kind for seconds and one for milliseconds, with the factor 1,000 as the only way from one to the other.
 ghost use mathlib.Core.Path.{_≡_};
 ghost use Prim.Native.Nat.{_*_, _/_, _≤_};
 ghost use Rattle.heartbeat.specs.Beat.{formOf, valueOf, beatOf};

@@ -7,6 +7,7 @@ use Rattle.connection.specs.State.{liveAt}
 use Rattle.connection.specs.declared.Connection.{Connection}
 use Rattle.holders.specs.Holders.{ownerOf, holderObeys, sweptHolder}
 
+-- Theorem. Locking, sweeping and opening keep rule R61f.
 pub record HoldersKept : Type 0 where
   pub unheld : (cs : List Connection) → holderObeys cs 0 ≡ true
   pub owning : (cs : List Connection) (n : ℕ) → liveAt cs n ≡ true → holderObeys cs (ownerOf n) ≡ true

@@ -1,4 +1,4 @@
--- What C is handed by the reader and the writer: the numbers of their answers, each in its field.
+-- R69. What C is handed by the reader and the writer: the numbers of their answers, each in its field.
 use Prim.Native.Nat.{ℕ}
 use mathlib.Core.List.{List}
 use mathlib.Core.Bool.{cond}
@@ -12,22 +12,23 @@ use Rattle.host.specs.declared.messages.Entry.{Entry}
 use Rattle.host.specs.declared.messages.Part.{Part}
 use Rattle.host.specs.declared.messages.Written.{Written}
 
--- a number that an answer does not have is 0
+-- R69. The number at a place of an answer, or 0.
 abbrev pub at : List ℕ → ℕ → ℕ
 at l i = getD l i 0
 
+-- R69. A reading of these fields.
 abbrev pub readingWith : ℕ → ℕ → ℕ → ℕ → ℕ → ℕ → ℕ → Reading
 readingWith number fault kind count form value length =
     record { number = number; fault = fault; kind = kind; count = count; form = form; value = value; length = length }
 
--- "the answer .. is the number alone, with a fault for 8"; else the length and what the message is, a keep-alive's form and value last
+-- R69. A reading: length, type, count, form and value; or the refusal, 8 with its fault.
 unfoldable pub readingOf : List ℕ → Reading
 readingOf l =
     cond (eqb (at l 0) notRefused)
     (readingWith notRefused 0 (at l 2) (at l 3) (at l 4) (at l 5) (at l 1))
     (readingWith (at l 0) (at l 1) 0 0 0 0 0)
 
--- "size 4, handle 4, target 4, method 4, parameter count 1"
+-- R69. A command; what a command has not is 0.
 unfoldable pub commandFrom : List ℕ → Entry
 commandFrom l =
     record {
@@ -46,7 +47,7 @@ commandFrom l =
       «event_index» = 0;
     }
 
--- "size 4, target 4, method 4, parameter count 1, context 4, emitter 4, event 4"
+-- R69. A notification; what a notification has not is 0.
 unfoldable pub notificationFrom : List ℕ → Entry
 notificationFrom l =
     record {
@@ -65,7 +66,7 @@ notificationFrom l =
       «event_index» = at l 9;
     }
 
--- an entry without target, method, context, emitter and event: a response, or a refusal
+-- R69. An entry without target, method, context, emitter and event: a response, or a refusal.
 abbrev pub plainWith : ℕ → ℕ → ℕ → ℕ → ℕ → ℕ → Entry
 plainWith number fault kind handle status count =
     record {
@@ -84,7 +85,7 @@ plainWith number fault kind handle status count =
       «event_index» = 0;
     }
 
--- "size 4, handle 4, status 1, parameter count 1"; "12 NoEntry"
+-- R69. An entry by its type, or the refusal, 8 with its fault.
 unfoldable pub entryFrom : List ℕ → Entry
 entryFrom l =
     cond (eqb (at l 0) notRefused)
@@ -93,13 +94,14 @@ entryFrom l =
     (plainWith notRefused 0 response (at l 2) (at l 3) (at l 4))))
     (plainWith (at l 0) (at l 1) 0 0 0 0)
 
--- "hands back its parameters as a part of the caller's message": where it starts and how long it is
+-- R69. A part: where it starts and how long it is.
 unfoldable pub partFrom : List ℕ → ℕ → Part
 partFrom s i = record { start = partStart s i; length = length (partOf s i) }
 
+-- R69. An answer of the writer of these fields.
 abbrev pub writtenWith : ℕ → ℕ → ℕ → Written
 writtenWith number fault length = record { number = number; fault = fault; length = length }
 
--- "its answer is the message's length"; else the number, "with a fault for 8"
+-- R69. The message's length; or the refusal, 8 with its fault.
 unfoldable pub writtenOf : List ℕ → Written
 writtenOf l = cond (eqb (at l 0) notRefused) (writtenWith notRefused 0 (at l 1)) (writtenWith (at l 0) (at l 1) 0)

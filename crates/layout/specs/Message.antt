@@ -1,4 +1,4 @@
--- A message, from its type, messageCount and data: document 01 'The wire'.
+-- R23, R24. A message's bytes, from its type, messageCount and data, and its place in a buffer.
 use Prim.Native.Nat.{ℕ, _+_}
 use mathlib.Core.List.{List, _∷_, _++_}
 use mathlib.Core.Bool.{cond}
@@ -8,22 +8,22 @@ use Rattle.octets.specs.Numbers.{bytes16, bytes32}
 use Rattle.heartbeat.specs.Beat.{secondsForm}
 use Rattle.frame.specs.Limits.{sync, version, leastSize}
 
--- "pduSize 4 (header and data, without the 3B)": the header has 9 bytes
+-- R23. pduSize: the header's 9 bytes and the data.
 abbrev pub sizeOf : List ℕ → ℕ
 sizeOf body = length body + leastSize
 
--- "the byte 3B, a 9-byte header": "protocolVersion 2 bytes (always 1), pduSize 4 .., pduType 1, messageCount 2"
+-- R23. The 3B and the header.
 unfoldable pub headBytes : ℕ → ℕ → ℕ → List ℕ
 headBytes kind count size = sync ∷ bytes16 version ++ (bytes32 size ++ (kind ∷ bytes16 count))
 
--- "then data"
+-- R23. A whole message.
 unfoldable pub message : ℕ → ℕ → List ℕ → List ℕ
 message kind count body = headBytes kind count (sizeOf body) ++ body
 
--- a keep-alive's data: "2 bytes of seconds, or 4 bytes of milliseconds"
+-- R15. A heartbeat's bytes: 2 of seconds, else 4 of milliseconds.
 unfoldable pub beatBytes : ℕ → ℕ → List ℕ
 beatBytes form value = cond (eqb form secondsForm) (bytes16 value) (bytes32 value)
 
--- m at the buffer's front: "Bytes after the message stay"
+-- R24. m at the buffer's front, all behind it as it was.
 unfoldable pub atFront : List ℕ → List ℕ → List ℕ
 atFront m buf = m ++ drop (length m) buf

@@ -5,16 +5,16 @@ use mathlib.Core.List.{List}
 use lib.ListN.{length}
 use lib.Seq.{sets}
 
--- any line of a type of 8 bits, and a count, a size, a fault or a number of bytes of 16 bits, fits
+-- R78. The room of any line: a type of 8 bits; a count, size, fault or number of bytes left of 16 bits.
 abbrev pub lineRoom : ℕ
 lineRoom = 40
 
--- the bytes of a line were put at a place, all others stay, and the answer is the place behind them
+-- The bytes of a line were put at a place, all others stay, and the answer is the place behind them.
 pub record Puts (line before : List ℕ) (at : ℕ) (after : List ℕ) (r : ℕ) : Type 0 where
   pub text : after ≡ sets before at line
   pub next : r ≡ at + length line
 
--- and there are not more of them than the room of a line
+-- And there are not more of them than the room of a line.
 pub record PutsLine (line before : List ℕ) (at : ℕ) (after : List ℕ) (r : ℕ) : Type 0 where
   pub puts : Puts line before at after r
   pub room : r ≤ at + lineRoom

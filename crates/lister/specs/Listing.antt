@@ -1,4 +1,4 @@
--- The listing of some input: the end of document 01 'Bench examples'.
+-- R78, R79. The listing of some input.
 use Prim.Native.Nat.{ℕ, zero, suc, _+_}
 use mathlib.Core.List.{List, [], _∷_, _++_}
 use mathlib.Core.Bool.{cond}
@@ -10,55 +10,58 @@ use Rattle.frame.specs.declared.Decision.{Decision}
 use Rattle.frame.specs.declared.Decision.the-variants.{Undecided, Faulty, Sound}
 use Rattle.lines.specs.Text.{messageLine, stopLine, partLine, endLine}
 
--- the message at the front of s where d, what s decides, is sound, and then the others
+-- R78. The message at the front of s where d, what s decides, is sound, and then the others.
 unfoldable pub soundFirst : Decision → List ℕ → List (List ℕ) → List (List ℕ)
 soundFirst Undecided s others = []
 soundFirst (Faulty f n) s others = []
 soundFirst (Sound n) s others = take n s ∷ others
 
--- the sound messages at the front of s, one after another, at most k of them
+-- R78. The sound messages at the front of s, one after another, at most k of them.
 unfoldable pub messagesWithin : ℕ → List ℕ → List (List ℕ)
 messagesWithin zero s = []
 messagesWithin (suc k) s = soundFirst (decide s) s (messagesWithin k (drop (taken (decide s)) s))
 
--- all of them: a message has at least one byte
+-- R78. All of them: a message has at least one byte.
 unfoldable pub messagesOf : List ℕ → List (List ℕ)
 messagesOf s = messagesWithin (length s) s
 
--- how many bytes some messages are
+-- R78. How many bytes some messages are.
 unfoldable pub bytesOf : List (List ℕ) → ℕ
 bytesOf [] = 0
 bytesOf (m ∷ ms) = length m + bytesOf ms
 
--- "Offset of the 3B, type, messageCount, pduSize"
+-- R78. The line of the message m at an offset.
 unfoldable pub lineOf : ℕ → List ℕ → List ℕ
 lineOf at m = messageLine at (pduType m) (messageCount m) (pduSize m)
 
--- a line for each of some messages that stand one after another from the offset at on
+-- R78. A line for each of some messages that stand one after another from the offset at on.
 unfoldable pub linesOf : ℕ → List (List ℕ) → List ℕ
 linesOf at [] = []
 linesOf at (m ∷ ms) = lineOf at m ++ linesOf (at + length m) ms
 
--- "last, offset and `stop` fault, or `part` bytes left, or `end`"; left bytes stand at the offset at and decide d
+-- R79. The last line, where left bytes stand at the offset at and decide d.
 unfoldable pub lastBy : Decision → ℕ → ℕ → List ℕ
 lastBy (Faulty f n) at left = stopLine at f
 lastBy Undecided at left = cond (eqb left 0) (endLine at) (partLine at left)
 -- never behind all the sound messages
 lastBy (Sound n) at left = []
 
+-- R79. The last line for the bytes s at an offset.
 unfoldable pub lastLine : ℕ → List ℕ → List ℕ
 lastLine at s = lastBy (decide s) at (length s)
 
--- how many bytes the sound messages at the front of s are, and what stands behind them
+-- R79. How many bytes the sound messages at the front of s are.
 unfoldable pub listedBytes : List ℕ → ℕ
 listedBytes s = bytesOf (messagesOf s)
 
+-- R79. What stands behind them.
 unfoldable pub unlisted : List ℕ → List ℕ
 unlisted s = drop (listedBytes s) s
 
--- the listing of the bytes s, which stand at the offset at and end the input
+-- R78, R79. The listing of the bytes s, which stand at the offset at and end the input.
 unfoldable pub listingFrom : ℕ → List ℕ → List ℕ
 listingFrom at s = linesOf at (messagesOf s) ++ lastLine (at + listedBytes s) (unlisted s)
 
+-- R78, R79. The listing of the whole input.
 unfoldable pub listing : List ℕ → List ℕ
 listing s = listingFrom 0 s

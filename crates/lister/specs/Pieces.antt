@@ -1,4 +1,4 @@
--- Input that comes in pieces is listed as the whole.
+-- R80. Input that comes in pieces is listed as the whole.
 use Prim.Native.Nat.{ℕ, _+_, _≤_}
 use mathlib.Core.Path.{_≡_}
 use mathlib.Core.List.{List, [], _∷_, _++_}
@@ -11,26 +11,28 @@ use Rattle.frame.specs.declared.Decision.{Decision}
 use Rattle.frame.specs.declared.Decision.the-variants.{Undecided, Faulty, Sound}
 use Rattle.lister.specs.Listing.{messagesOf, linesOf, lastLine, listedBytes, unlisted, listingFrom, listing}
 
--- whether the last line is due: the input ends, or a fault stops the listing
+-- R79. The last line is due: the input ends, or a fault stops the listing.
 unfoldable pub overBy : Bool → Decision → Bool
 overBy end Undecided = end
 overBy end (Faulty f n) = true
 overBy end (Sound n) = end
 
+-- R79. The last line is due behind the sound messages of s.
 unfoldable pub over : Bool → List ℕ → Bool
 over end s = overBy end (decide (unlisted s))
 
--- what is printed of the bytes s, which stand at the offset at; end says that the input ends with them
+-- R80. What is printed of the bytes s, which stand at the offset at; end says that the input ends with them.
 unfoldable pub pieceText : Bool → ℕ → List ℕ → List ℕ
 pieceText end at s = linesOf at (messagesOf s) ++ cond (over end s) (lastLine (at + listedBytes s) (unlisted s)) []
 
--- what is printed of some pieces, with what was left unlisted put before the next
+-- R80. What is printed of some pieces, with what was left unlisted put before the next.
 unfoldable pub printed : ℕ → List ℕ → List (List ℕ) → List ℕ
 printed at held [] = pieceText true at held
 printed at held (p ∷ ps) =
     pieceText false at (held ++ p)
     ++ cond (over false (held ++ p)) [] (printed (at + listedBytes (held ++ p)) (unlisted (held ++ p)) ps)
 
+-- Theorem. However the input is cut, what is printed is its listing.
 pub record Pieces : Type 0 where
   -- however the input is cut, what is printed is its listing
   pub whole : (ps : List (List ℕ)) → printed 0 [] ps ≡ listing (joined ps)

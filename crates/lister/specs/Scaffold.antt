@@ -9,11 +9,11 @@ use Rattle.lines.specs.Scaffold.{Puts}
 use Rattle.lister.specs.declared.Listed.{Listed}
 use Rattle.lister.specs.Listing.{soundFirst, bytesOf, linesOf}
 
--- the message at the front of s, if it is sound
+-- R78. The message at the front of s, if it is sound.
 unfoldable pub firstOf : List ℕ → List (List ℕ)
 firstOf s = soundFirst (decide s) s []
 
--- ms, messages at the front of s, which stands from the offset on, were listed
+-- ms, messages at the front of s, which stands from the offset on, were listed.
 pub record Lists (ms : List (List ℕ)) (s : List ℕ) (offset : ℕ) (before : List ℕ) (at : ℕ) (after : List ℕ) (r : Listed) : Type 0 where
   pub used : r .used ≡ bytesOf ms
   pub within : r .used ≤ length s
@@ -21,18 +21,19 @@ pub record Lists (ms : List (List ℕ)) (s : List ℕ) (offset : ℕ) (before : 
   -- a message has at least 10 bytes
   pub room : r .put ≤ at + 4 * r .used
 
--- the bytes that the input's buffer holds, and the output's
+-- R80. The bytes that the input's buffer holds.
 abbrev pub pieceBytes : ℕ
 pieceBytes = 16000
 
+-- R80. The bytes that the output's buffer holds.
 abbrev pub textBytes : ℕ
 textBytes = 65536
 
--- below it every offset of a piece fits 64 bits
+-- R80. Below it every offset of a piece fits 64 bits.
 abbrev pub greatestOffset : ℕ
 greatestOffset = 18446744073709500000
 
--- the buffers, and few bytes held, from an offset on that can be counted
+-- The buffers, and few bytes held, from an offset on that can be counted.
 pub record TurnReady (input out : List ℕ) (offset held : ℕ) : Type 0 where
   pub input-length : length input ≡ pieceBytes
   pub out-length : length out ≡ textBytes

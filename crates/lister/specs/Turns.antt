@@ -1,4 +1,4 @@
--- What one turn of the listing does: it reads a piece and prints it by `pieceText`, as in `printed`.
+-- R80. What one turn of the listing does: it reads a piece and prints it.
 use Prim.Native.Nat.{ℕ, _+_, _≤_, _<_}
 use mathlib.Core.Path.{_≡_}
 use mathlib.Core.List.{List, _++_}
@@ -11,7 +11,7 @@ use Rattle.lister.specs.declared.Next.{Next}
 use Rattle.lister.specs.Listing.{listedBytes, unlisted}
 use Rattle.lister.specs.Pieces.{over, pieceText}
 
--- the bytes s, which stand from the offset on, were listed
+-- R80. The bytes s, which stand from the offset on, were listed.
 pub record ListsPiece (end : Bool) (offset : ℕ) (s before after : List ℕ) (r : Piece) : Type 0 where
   pub used : r .used ≡ listedBytes s
   pub within : r .used ≤ length s
@@ -19,7 +19,7 @@ pub record ListsPiece (end : Bool) (offset : ℕ) (s before after : List ℕ) (r
   pub puts : Puts (pieceText end offset s) before 0 after (r .put)
   pub room : r .put ≤ length after
 
--- the listing goes on: at least a byte was read, no fault was met, and what is unlisted is held
+-- R80. The listing goes on: at least a byte was read, no fault was met, and what is unlisted is held.
 pub record Goes (offset : ℕ) (held piece input : List ℕ) (r : Next) : Type 0 where
   pub some : 0 < length piece
   pub on : over false (held ++ piece) ≡ false
@@ -27,7 +27,7 @@ pub record Goes (offset : ℕ) (held piece input : List ℕ) (r : Next) : Type 0
   pub count : r .held ≡ length (unlisted (held ++ piece))
   pub kept : take (r .held) input ≡ unlisted (held ++ piece)
 
--- a piece was read, none where the input ended, and its text handed over to be written; unwritten says that it could not be
+-- R80. A piece was read, none where the input ended, and its text handed over; failed says that it was not written.
 pub record Turned (offset : ℕ) (held input out : List ℕ) (r : Next) : Type 0 where
   pub piece : List ℕ
   pub unwritten : Bool

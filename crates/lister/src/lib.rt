@@ -249,7 +249,7 @@ pub fn pieces()
     ensures { λ _. ⌜ Pieces ⌝ }
 {}
 
-// The sample of document 01.
+// R83. The listing's example.
 pub fn sample_listed()
     ensures { λ _. ⌜ SampleListed ⌝ }
 {}

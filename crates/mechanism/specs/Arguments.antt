@@ -1,5 +1,4 @@
--- The arguments of 3.14: document 02 (ii), "Method 3.14 takes a 16-byte key and a network address: a 2-byte text length, the text, a
--- 2-byte port (count 2)".
+-- R71, R73. The arguments of 3.14, and what they arm.
 use Prim.Native.Nat.{ℕ, _+_}
 use mathlib.Core.Bool.{Bool, true, false, cond, not, _&&_, _||_}
 use mathlib.Core.List.{List}
@@ -12,53 +11,55 @@ use Rattle.mechanism.specs.State.{keyBytes, noAddress, disarmed}
 use Rattle.mechanism.specs.declared.Mechanism.{Mechanism}
 use Rattle.mechanism.specs.declared.Arming.{Arming}
 
--- the text starts behind the key and its own length
+-- R71. Where the text starts: behind the key and its own length.
 abbrev pub textStart : ℕ
 textStart = 18
 
--- "a 2-byte text length"
+-- R71. The text length that the arguments tell.
 abbrev pub textLength : List ℕ → ℕ
 textLength part = be16At part keyBytes
 
--- the key, the text and the port
+-- R71. The key.
 unfoldable pub keyIn : List ℕ → List ℕ
 keyIn part = take keyBytes part
 
+-- R71. The text.
 unfoldable pub textIn : List ℕ → List ℕ
 textIn part = take (textLength part) (drop textStart part)
 
+-- R71. The port.
 unfoldable pub portIn : List ℕ → ℕ
 portIn part = be16At part (textStart + textLength part)
 
--- "4 for wrong .. lengths": key 16, text length 2, the text, port 2
+-- R71. The length is not the one that the text length tells.
 unfoldable pub isMisfit : List ℕ → Bool
 isMisfit part = not (eqb (length part) (20 + textLength part))
 
--- "multicast (first part 224 to 239)"
+-- R73. The first part is 224 to 239.
 unfoldable pub isMulticast : List ℕ → Bool
 isMulticast address = leb 224 (getD address 0 0) && leb (getD address 0 0) 239
 
--- "The text is empty or an IPv4 address in dotted decimal .. and must then be multicast"
+-- R73. An address, and multicast.
 unfoldable pub isGroup : Dotted → Bool
 isGroup d = d .sound && isMulticast (d .address)
 
--- a text that 3.14 takes
+-- R73. A text that 3.14 takes: empty, or a multicast address.
 unfoldable pub isTextTaken : List ℕ → Bool
 isTextTaken text = eqb (length text) 0 || isGroup (dottedOf text)
 
--- "zeros for no text"
+-- R73. The address of a text, zeros for the empty one.
 unfoldable pub addressOf : List ℕ → List ℕ
 addressOf text = cond (eqb (length text) 0) noAddress (dottedOf text .address)
 
--- "then 7 for the text or port 0"
+-- R73. The text or the port is not taken: status 7.
 unfoldable pub isUntaken : List ℕ → Bool
 isUntaken part = not (isTextTaken (textIn part)) || eqb (portIn part) 0
 
--- the mechanism that they arm
+-- R73. The mechanism that these arguments arm.
 unfoldable pub armedBy : List ℕ → Mechanism
 armedBy part = record { armed = true; key = keyIn part; address = addressOf (textIn part); port = portIn part }
 
--- what 3.14 makes of them: nothing where the text or the port is not taken
+-- R73. What 3.14 makes of its arguments: nothing where the text or the port is not taken.
 unfoldable pub armingOf : List ℕ → Arming
 armingOf part =
     cond (isUntaken part)

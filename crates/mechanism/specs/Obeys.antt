@@ -1,5 +1,4 @@
--- The record rules of the mechanism: document 02 (ii), "1 also when armed with an address or port that 3.14 would not take, or disarmed
--- with key, address or port not zero".
+-- R61k, R61l. The record rules of the mechanism.
 use Prim.Native.Nat.{ℕ}
 use mathlib.Core.Bool.{Bool, cond, not, _&&_, _||_}
 use mathlib.Core.List.{List}
@@ -8,11 +7,11 @@ use Rattle.octets.specs.Zeros.{allZero}
 use Rattle.mechanism.specs.Arguments.{isMulticast}
 use Rattle.mechanism.specs.declared.Mechanism.{Mechanism}
 
--- an address that 3.14 would take: that of no text, or multicast
+-- R61. Row l: an address that 3.14 would take: that of no text, or multicast.
 unfoldable pub isAddressTaken : List ℕ → Bool
 isAddressTaken address = allZero address || isMulticast address
 
--- "1 .. when armed with an address or port that 3.14 would not take, or disarmed with key, address or port not zero", the other way round
+-- R61. Rows k and l: the mechanism keeps the record rules.
 unfoldable pub mechanismObeys : Mechanism → Bool
 mechanismObeys m =
     cond (m .armed)

@@ -1,11 +1,14 @@
--- The table of numbers, each name with its number: a number changed above is refused here.
+-- R17, R40, R63, R66. Each name with its number: a number changed elsewhere is refused here.
 use mathlib.Core.Path.{_≡_}
-use Rattle.numbers.specs.Refusal.{notRefused, badRecord, badArea, noConnection, noRoom, tableFull, clockBack, overrun, fault, short, tooLong, badEntry, noEntry}
+use Rattle.numbers.specs.Refusal.{notRefused, badRecord, badArea, noConnection, noRoom, tableFull}
+use Rattle.numbers.specs.Refusal.{clockBack, overrun, fault, short, tooLong, badEntry, noEntry}
 use Rattle.numbers.specs.Fault.{faultStart, faultVersion, faultSize, faultType, faultCount, faultData}
-use Rattle.numbers.specs.Kind.{kindMore, kindMessage, kindClosed, kindNothing, kindNotification, kindKeepAlive, kindUnchanged, kindReset}
-use Rattle.numbers.specs.Status.{noObject, noMethod, forbidden, malformed, heldByOther, strangeEmitter, badValue, outOfTurn, noFreeEntry, carriedOut}
+use Rattle.numbers.specs.Kind.{kindMore, kindMessage, kindClosed}
+use Rattle.numbers.specs.Kind.{kindNothing, kindNotification, kindKeepAlive, kindUnchanged, kindReset}
+use Rattle.numbers.specs.Status.{noObject, noMethod, forbidden, malformed, heldByOther}
+use Rattle.numbers.specs.Status.{strangeEmitter, badValue, outOfTurn, noFreeEntry, carriedOut}
 
--- what a call refuses by
+-- R63. The refusals, name by number.
 pub record RefusalTable : Type 0 where
   pub refusal0 : notRefused ≡ 0
   pub refusal1 : badRecord ≡ 1
@@ -21,7 +24,7 @@ pub record RefusalTable : Type 0 where
   pub refusal11 : badEntry ≡ 11
   pub refusal12 : noEntry ≡ 12
 
--- what closes a connection
+-- R17. The faults, name by number.
 pub record FaultTable : Type 0 where
   pub fault1 : faultStart ≡ 1
   pub fault2 : faultVersion ≡ 2
@@ -30,24 +33,24 @@ pub record FaultTable : Type 0 where
   pub fault5 : faultCount ≡ 5
   pub fault6 : faultData ≡ 6
 
--- the kinds of a delivery's answer
+-- R66. The kinds of a delivery's answer.
 pub record DeliveryKinds : Type 0 where
   pub kind1 : kindMore ≡ 1
   pub kind2 : kindMessage ≡ 2
   pub kind3 : kindClosed ≡ 3
 
--- the kinds of a taking's answer
+-- R66. The kinds of a taking's answer.
 pub record TakingKinds : Type 0 where
   pub kind0 : kindNothing ≡ 0
   pub kind1 : kindNotification ≡ 1
   pub kind2 : kindKeepAlive ≡ 2
 
--- the kinds of a datagram's answer
+-- R66. The kinds of a datagram's answer.
 pub record DatagramKinds : Type 0 where
   pub kind0 : kindUnchanged ≡ 0
   pub kind1 : kindReset ≡ 1
 
--- what a command is answered with
+-- R40. The statuses, name by number.
 pub record StatusTable : Type 0 where
   pub status5 : noObject ≡ 5
   pub status11 : noMethod ≡ 11
@@ -60,7 +63,7 @@ pub record StatusTable : Type 0 where
   pub status10 : noFreeEntry ≡ 10
   pub status0 : carriedOut ≡ 0
 
--- THE TABLE
+-- Theorem. Every refusal, fault, kind and status has the number that its table prints.
 pub record NumbersTable : Type 0 where
   pub refusals : RefusalTable
   pub faults : FaultTable

@@ -6,11 +6,11 @@ use mathlib.Core.List.{List}
 use Rattle.objects.specs.Methods.{methodNumber, isObject, hasMethod}
 use Rattle.objects.specs.Tests.{isForbidden, countOf, isMalformed}
 
--- the numbers of two methods differ where their levels or indexes do
+-- Theorem. Two methods whose levels or indexes differ have different numbers.
 pub record MethodsApart : Type 0 where
   pub told : (a i b j : ℕ) → i < 65536 → j < 65536 → methodNumber a i ≡ methodNumber b j → (a ≡ b) × (i ≡ j)
 
--- a command that none of 5, 11, 8, 4 stops
+-- A command that none of statuses 5, 11, 8 and 4 stops.
 pub record Allowed (target m : ℕ) (part : List ℕ) : Type 0 where
   pub object : isObject target ≡ true
   pub method : hasMethod target m ≡ true

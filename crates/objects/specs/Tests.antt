@@ -1,4 +1,4 @@
--- The tests of a command that need no device: document 01 'Our objects', "Status, the first that applies".
+-- R40, R43, R44. The tests of a command that need no device.
 use Prim.Native.Nat.{ℕ}
 use mathlib.Core.Bool.{Bool, cond, not, _&&_, _||_}
 use mathlib.Core.List.{List}
@@ -8,48 +8,49 @@ use Rattle.numbers.specs.Status.{noObject, noMethod, forbidden, malformed, carr
 use Rattle.mechanism.specs.Arguments.{isMisfit, isUntaken}
 use Rattle.objects.specs.Methods.{setMethod, addMethod, removeMethod, resetKeyMethod, isManager, isObject, isLocking, hasMethod}
 
--- "8 .. for lock or unlock of a manager"; document 02 (ii), "3.14 leaves status 8's list"
+-- R40. Status 8: lock or unlock of a manager.
 unfoldable pub isForbidden : ℕ → ℕ → Bool
 isForbidden target m = isLocking m && isManager target
 
--- "4.2 set (count 1, 1 byte)", "3.1 add, count 5, 23 bytes", "3.2 remove, count 2, 16 bytes", "Other methods take count 0";
--- document 02 (ii), "Method 3.14 .. (count 2)"
+-- R38. The parameter count that a method takes.
 unfoldable pub countOf : ℕ → ℕ
 countOf m = cond (eqb m setMethod) 1 (cond (eqb m addMethod) 5 (cond (eqb m removeMethod) 2 (cond (eqb m resetKeyMethod) 2 0)))
 
+-- R38. The length that a method's parameters have; that of 3.14 is told by its text.
 unfoldable pub lengthOf : ℕ → ℕ
 lengthOf m = cond (eqb m setMethod) 1 (cond (eqb m addMethod) 23 (cond (eqb m removeMethod) 16 0))
 
--- "wrong .. length": that of 3.14 is told by its text length
+-- R40. Status 4: the parameters have another length.
 unfoldable pub isLengthBad : ℕ → List ℕ → Bool
 isLengthBad m part = cond (eqb m resetKeyMethod) (isMisfit part) (not (eqb (length part) (lengthOf m)))
 
--- "a last pair other than 0, 0"
+-- R40. Status 4: the last two bytes of 3.1 are not 0, 0.
 unfoldable pub isPairBad : ℕ → List ℕ → Bool
 isPairBad m part = eqb m addMethod && not (eqb (getD part 21 0) 0 && eqb (getD part 22 0) 0)
 
--- "4 wrong count or length, or a last pair other than 0, 0"
+-- R40. Status 4: wrong parameter count, length or last pair.
 unfoldable pub isMalformed : ℕ → ℕ → List ℕ → Bool
 isMalformed m count part = not (eqb count (countOf m)) || isLengthBad m part || isPairBad m part
 
--- "Mutes start at 2 (unmuted); 1 is muted"
+-- R43. The value of a mute that is muted.
 abbrev pub muted : ℕ
 muted = 1
 
+-- R43. The value of one that is not, at which all start.
 abbrev pub unmuted : ℕ
 unmuted = 2
 
--- "mutes are 1 or 2"
+-- R61. Row j: the value is one that a mute can have.
 unfoldable pub isMuteValue : ℕ → Bool
 isMuteValue v = eqb v muted || eqb v unmuted
 
--- "7 mode not 1, or mute not 1 or 2"; document 02 (ii), "then 7 for the text or port 0"
+-- R40. Status 7: a mode, a mute's value, a text or a port that is not taken.
 unfoldable pub isValueBad : ℕ → List ℕ → Bool
 isValueBad m part =
     (eqb m addMethod && not (eqb (getD part 20 0) 1)) || (eqb m setMethod && not (isMuteValue (getD part 0 0)))
     || (eqb m resetKeyMethod && isUntaken part)
 
--- the first that applies of those that need no device
+-- R40. The first that applies of those that need no device; 0 where none does.
 unfoldable pub firstStatus : ℕ → ℕ → ℕ → List ℕ → ℕ
 firstStatus target m count part =
     cond (not (isObject target)) noObject

@@ -1,10 +1,10 @@
--- Two runs of bytes compared.
+-- Two runs of bytes compared, as R75 needs it.
 use Prim.Native.Nat.{ℕ}
 use mathlib.Core.Bool.{Bool, true, false, _&&_}
 use mathlib.Core.List.{List, [], _∷_}
 use lib.Dec.{eqb}
 
--- the same bytes, and as many
+-- R75. The same bytes, and as many.
 unfoldable pub sameBytes : List ℕ → List ℕ → Bool
 sameBytes [] [] = true
 sameBytes [] (y ∷ ys) = false

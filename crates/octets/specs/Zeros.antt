@@ -1,15 +1,15 @@
--- Bytes that are zero: document 01 'What is built', "undecided bytes first and zeros after".
+-- R4. Bytes that are zero.
 use Prim.Native.Nat.{ℕ}
 use mathlib.Core.List.{List, [], _∷_}
 use mathlib.Core.Bool.{Bool, true, _&&_}
 use lib.Dec.{eqb}
 use lib.ListN.{replicate}
 
--- n bytes, each 0
+-- R4. n bytes, each 0.
 unfoldable pub zeros : ℕ → List ℕ
 zeros n = replicate n 0
 
--- every byte is 0
+-- R4. Every byte is 0.
 unfoldable pub allZero : List ℕ → Bool
 allZero [] = true
 allZero (x ∷ xs) = eqb x 0 && allZero xs

@@ -25,16 +25,12 @@ use Rattle.mechanism.specs.Datagram as datagrams
 use Rattle.connection.specs.State.{liveAt, isNotOpen}
 use Rattle.connection.specs.Supervision.{fitsStep}
 use Rattle.connection.specs.declared.Connection.{Connection}
-use Rattle.subscription.specs.State.{free, twinAt, lowestUnused}
-use Rattle.objects.specs.Methods.{lockMethod, unlockMethod, setMethod, addMethod, removeMethod, resetKeyMethod, placeOf, isObject, isLocking, isMute}
+use Rattle.objects.specs.Methods.{lockMethod, placeOf, isObject, isLocking, isMute}
 use Rattle.objects.specs.Tests.{isForbidden}
-use Rattle.objects.specs.Answers.{failedOf}
 use Rattle.holders.specs.Holders.{ownerOf, holderObeys, sweptHolder}
 use Rattle.device.specs.State.{muteCount, freshOf, openOf, sweepOf, closeOf, heardAt, sentAt, toldAt, beatingAt}
 use Rattle.device.specs.Time.{stepOf, tickStep, tickOf}
-use Rattle.device.specs.Setters.{withSubscriptions, withHolders, withMechanism}
-use Rattle.subscription.specs.Arguments.{subscriptionFrom}
-use Rattle.device.specs.Run.{muteAt, statusOf, mutedOf, doneOf, answerOf, unchanged, ranBy}
+use Rattle.device.specs.Run.{statusOf, doneOf}
 use Rattle.device.specs.Run as commands
 use Rattle.device.specs.declared.Device.{Device}
 use Rattle.device.specs.declared.Opened.{Opened}

@@ -99,7 +99,7 @@ ticked-blank step c k = go (eqb (c .beat) 0) refl
     go true b = clash _ (closesAt step c) k (never-idle step c (eqb-true (c .beat) 0 b))
     go false b = rw (b, k)
 
--- ---- a record and an area that hold the bytes j, after one that rows 1 and 2 do not refuse
+-- ---- a record and an area that hold the bytes j, after one that refusals 1 and 2 let pass
 record Into (j : Held) (held area : List ℕ) : Type 0 where
   few : Small j
   counts : held ≡ countsOf j 8

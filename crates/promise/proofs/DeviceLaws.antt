@@ -22,8 +22,7 @@ use Rattle.connection.specs.declared.Connection.{Connection}
 use Rattle.connection.proofs.Keeps.{supervision-kept}
 use Rattle.subscription.specs.State.{lowestWaiting}
 use Rattle.device.specs.State.{freshOf, openOf, closeOf, sweepOf, sentAt, toldAt}
-use Rattle.device.specs.Time.{stepOf, advanced, tickStep, tickOf}
-use Rattle.device.specs.Setters.{withConnections}
+use Rattle.device.specs.Time.{stepOf, tickStep, tickOf}
 use Rattle.device.specs.declared.Device.{Device}
 use Rattle.device.specs.declared.Opened.{Opened}
 use Rattle.device.specs.declared.Opening.{Opening}

@@ -1,4 +1,4 @@
--- CallsKeep: from a fresh record and a zeroed area, every call leaves what rows 1 and 2 do not refuse. Assumes nothing.
+-- CallsKeep: from a fresh record and a zeroed area, every call leaves what refusals 1 and 2 let pass. Assumes nothing.
 use Prim.Native.Nat.{ℕ, zero, suc, _-_}
 use mathlib.Core.Path.{_≡_, refl, sym, ap, _∙_}
 use mathlib.Core.List.{List, _++_}

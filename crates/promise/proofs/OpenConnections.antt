@@ -19,7 +19,6 @@ use Rattle.connection.specs.State.{connectionCount, closed, opened, liveAt, isN
 use Rattle.connection.specs.declared.Connection.{Connection}
 use Rattle.device.specs.State.{freshOf, openOf, closeOf, sentAt, toldAt, livesIn}
 use Rattle.device.specs.declared.Device.{Device}
-use Rattle.device.specs.Setters.{withConnections}
 use Rattle.device.specs.declared.Opened.{Opened}
 use Rattle.serve.specs.Sound.{soundOf}
 use Rattle.serve.proofs.Keeps.{sound-kept}

@@ -22,9 +22,9 @@ use Rattle.connection.specs.Supervision.{heardOf, sentOf, beatingOf}
 use Rattle.connection.specs.declared.Connection.{Connection}
 use Rattle.objects.specs.Answers.{failedOf}
 use Rattle.holders.specs.Holders.{ownerOf, isOther}
-use Rattle.subscription.specs.State.{free, twinAt, lowestUnused, lowestWaiting}
-use Rattle.objects.specs.Methods.{lockMethod, unlockMethod, setMethod, addMethod, removeMethod, resetKeyMethod, placeOf, isObject, isLocking, hasMethod}
-use Rattle.objects.specs.Tests.{isForbidden, isMalformed, firstStatus}
+use Rattle.subscription.specs.State.{free, lowestWaiting}
+use Rattle.objects.specs.Methods.{lockMethod, setMethod, placeOf, isLocking}
+use Rattle.objects.specs.Tests.{firstStatus}
 use Rattle.serve.specs.Serve.{ranWith, ranFirst, lastOf}
 use Rattle.serve.specs.Sound.{Ruled, commandsOf, keptAlive, soundOf}
 use Rattle.frame.specs.Limits.{headerEnd, notification, keepAlive}
@@ -32,9 +32,8 @@ use Rattle.frame.specs.Header.{pduType, messageCount}
 use Rattle.frame.specs.Entry.{entrySize}
 use Rattle.fields.specs.Fields.{heartbeatOf}
 use Rattle.device.specs.State.{sweepOf, openOf, closeOf, atConnection, heardAt, sentAt, toldAt, beatingAt}
-use Rattle.device.specs.Run.{holderAt, muteAt, isHeldByOther, laterStatus, statusOf, mutedOf, doneOf, answerOf, unchanged, ranBy, runOf}
-use Rattle.device.specs.Setters.{withSubscriptions, withHolders, withMechanism}
-use Rattle.subscription.specs.Arguments.{subscriptionFrom}
+use Rattle.device.specs.Run.{holderAt, isHeldByOther, laterStatus, statusOf, doneOf, runOf}
+use Rattle.device.specs.Setters.{withHolders}
 use Rattle.device.specs.declared.Opened.{Opened}
 use Rattle.device.specs.declared.Opening.{Opening}
 use Rattle.device.specs.declared.Opening.the-variants as opens

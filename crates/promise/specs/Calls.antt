@@ -1,4 +1,4 @@
--- The endpoint's calls as one function, and what each is to give.
+-- R2, R81. The endpoint's calls as one function, and what each is to give.
 use Prim.Native.Nat.{ℕ}
 use mathlib.Core.List.{List, [], _∷_}
 use lib.ListN.{length, set}
@@ -17,11 +17,11 @@ use Rattle.reset.specs.Datagram.{datagramCall}
 use Rattle.endpoint.specs.declared.Record.{Record}
 use Rattle.promise.specs.Rulebook.{Ask, opening, closing, ticking, taking, datagram, Given}
 
--- a call of the host, whose room is the output lent
+-- R2. A call of a host, with the output that it lends.
 abbrev pub HostCall : Type 0
 HostCall = Call Ask (List ℕ)
 
--- the call, by the definition that its contract cites
+-- R2. The endpoint's calls, by their definitions.
 unfoldable pub callOf : Record → List ℕ → HostCall → Outcome
 callOf r area (deliver n piece out) = deliverCall r area n piece out
 callOf r area (ask opening) = outcome (openCall r .answer) (openCall r .state) area []
@@ -30,18 +30,19 @@ callOf r area (ask (ticking reading)) = tickCall r area reading
 callOf r area (ask (taking out)) = outcome (takeCall r out .answer) (takeCall r out .state) area (takeCall r out .output)
 callOf r area (ask (datagram g)) = datagramCall r area g
 
--- the answer to a message of which k bytes are this piece's: those are the bytes taken
+-- R66. The numbers of a delivery that decided: 0, the kind, the bytes taken, the value.
 unfoldable pub withTaken : ℕ → List ℕ → List ℕ
 withTaken k answer = set answer 2 k
 
--- the record and the area of device d with h held
+-- R3. The record of device d with h held.
 abbrev pub recordWith : Device → Held → Record
 recordWith d h = stateOf d (countsOf h connectionCount)
 
+-- R4. The area with h held.
 abbrev pub areaWith : Held → List ℕ
 areaWith h = flat h connectionCount
 
--- what a call is to give, where the machine over pieces comes to device d with h held and that answer
+-- R81. What a call is to give, where the machine over pieces comes to device d with h held and that answer.
 unfoldable pub outcomeOf : HostCall → Device → Held → Answer Given → Outcome
 outcomeOf (deliver n piece out) d h more = outcome (deliveryNumbers (deliveries.More (length piece))) (recordWith d h) (areaWith h) out
 outcomeOf (deliver n piece out) d h (denied q) = outcome (q ∷ []) (recordWith d h) (areaWith h) out

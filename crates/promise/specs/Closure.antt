@@ -1,5 +1,4 @@
--- "At a closure nothing of that connection is left, and the locks, subscriptions, waiting notifications and undecided bytes of every
--- other open connection are unchanged." "A reused number starts as newly opened."
+-- R58 to R60. Nothing of a closed connection is left, nothing of the others touched, and a reused number is new.
 use Prim.Native.Nat.{ℕ}
 use mathlib.Core.Path.{_≡_}
 use mathlib.Core.Bool.{true, false}
@@ -22,25 +21,24 @@ use Rattle.endpoint.specs.declared.Record.{Record}
 use Rattle.promise.specs.Rulebook.{bitOf}
 use Rattle.promise.specs.Kept.{Kept}
 
--- connection n's part of the area
+-- R4. Connection n's part of the area.
 unfoldable pub areaPart : List ℕ → ℕ → List ℕ
 areaPart area n = take partBytes (drop (partAt n) area)
 
--- nothing of connection n is left in r' and its area, which came of r: it is closed and all zero, no lock, entry or mark is its own,
--- its count is 0 and its part zeros
+-- R60. Nothing of connection n is left in r' and its area, which came of r.
 pub record Left (n : ℕ) (r r' : Record) (area' : List ℕ) : Type 0 where
   pub gone : Gone n (r .device) (r' .device)
   pub blank : getD (r' .device .connections) n closed ≡ closed
   pub count : heldAt r' n ≡ 0
   pub bytes : areaPart area' n ≡ zeros partBytes
 
--- connection k is open, with its locks, entries, marks, count and part as they were
+-- R60. Connection k is open, with its locks, entries, marks, count and part as they were.
 pub record Unmoved (k : ℕ) (r : Record) (area : List ℕ) (r' : Record) (area' : List ℕ) : Type 0 where
   pub stays : Stays k (r .device) (r' .device)
   pub count : heldAt r' k ≡ heldAt r k
   pub bytes : areaPart area' k ≡ areaPart area k
 
--- a call that closed connection n alone
+-- R60. A call that closed connection n alone.
 pub record Closed (n : ℕ) (r : Record) (area : List ℕ) (o : Outcome) : Type 0 where
   pub left : Left n r (o .state) (o .area)
   pub others : (k : ℕ) → eqb k n ≡ false → liveAt (r .device .connections) k ≡ true → Unmoved k r area (o .state) (o .area)
@@ -48,7 +46,7 @@ pub record Closed (n : ℕ) (r : Record) (area : List ℕ) (o : Outcome) : Type 
   pub supervised : (k : ℕ) → eqb k n ≡ false
       → getD (o .state .device .connections) k closed ≡ getD (r .device .connections) k closed
 
--- connection n is newly opened: all counts zero, no lock, no entry, no byte
+-- R58. Connection n is newly opened: all counts zero, no lock, no entry, no byte.
 pub record New (n : ℕ) (r r' : Record) (area : List ℕ) : Type 0 where
   pub free : liveAt (r .device .connections) n ≡ false
   pub connection : getD (r' .device .connections) n closed ≡ opened
@@ -57,18 +55,19 @@ pub record New (n : ℕ) (r r' : Record) (area : List ℕ) : Type 0 where
   pub count : heldAt r' n ≡ 0
   pub bytes : areaPart area n ≡ zeros partBytes
 
--- ---- what is supposed, of a record and an area that rows 1 and 2 let pass
+-- ---- what is supposed, of a record and an area that refusals 1 and 2 let pass
 
--- the tick answers by this mask
+-- R56. A tick of a record and an area that keep their rules, with this answer.
 pub record TickTold (r : Record) (area : List ℕ) (reading mask : ℕ) : Type 0 where
   pub kept : Kept r area
   pub answer : tickCall r area reading .answer ≡ tickingNumbers (tickings.Closed mask)
 
--- the opening answers by this number
+-- R58. An opening of a record and an area that keep their rules, with this number.
 pub record OpeningTold (r : Record) (area : List ℕ) (n : ℕ) : Type 0 where
   pub kept : Kept r area
   pub answer : openCall r .answer ≡ openingNumbers (openings.Number n)
 
+-- Theorem. A closure leaves nothing of its connection and all of the others; a number opened again is new.
 pub record ClosureLeavesNothing : Type 0 where
   -- the host's close
   pub byHost : (r : Record) (area : List ℕ) (n : ℕ) → Kept r area → closeCall r area n .answer ≡ closingNumbers closings.Done

@@ -1,4 +1,4 @@
--- The starred examples of document 01 'Bench examples': one table, worked by the rules.
+-- R83. The examples that are proved: one table, worked by the rules.
 use Prim.Native.Nat.{ℕ, _-_, _^_}
 use mathlib.Core.Path.{_≡_}
 use mathlib.Core.List.{List, [], _∷_, _++_, map}
@@ -20,49 +20,52 @@ use Rattle.answers.specs.declared.Taking.the-variants as takings
 use Rattle.replies.specs.Bytes.{leastOutput}
 use Rattle.promise.specs.Rulebook.{ticking, taking, Given, rule}
 
--- what the rules give, and what the paper prints
+-- R83. What the rules give, and what R83 prints.
 pub record Row : Type 0 where
   pub gives : List ℕ
   pub wanted : List ℕ
 
+-- R83. A row of these two.
 abbrev pub row : List ℕ → List ℕ → Row
 row gives wanted = record { gives = gives; wanted = wanted }
 
--- a device first read at this reading, with connections 0 and 1 open
+-- R83. A device first read at this reading, with connections 0 and 1 open.
 abbrev pub twoOpen : ℕ → Device
 twoOpen reading = openOf (openOf (freshOf reading) .device) .device
 
--- the device after a message of connection n, and what is answered; an output of no length keeps no other bytes
+-- R83. The device after a message of connection n.
 abbrev pub afterMessage : Device → ℕ → List ℕ → Device
 afterMessage d n m = rule d (handed n m []) .0
 
+-- R83. An answer's numbers and its output.
 abbrev pub told : Given → List ℕ
 told o = o .answer ++ o .output
 
--- a message of connection n, and the reply that it is to get
+-- R83. A message of connection n, and the reply that it is to get.
 abbrev pub replyRow : Device → ℕ → List ℕ → List ℕ → Row
 replyRow d n m reply = row (told (rule d (handed n m []) .1)) (deliveryNumbers (deliveries.Message (length m) (length reply)) ++ reply)
 
--- connection 0's form, heartbeat and silence
+-- R83. Connection 0's form, heartbeat and silence.
 abbrev pub supervisionOf : Device → List ℕ
 supervisionOf d =
     let c = getD (d .connections) 0 closed in
     c .form ∷ c .beat ∷ c .silence ∷ []
 
--- a tick's answer, and the device after it
+-- R83. A tick's answer.
 abbrev pub tickAnswer : Device → ℕ → List ℕ
 tickAnswer d reading = rule d (asked (ticking reading)) .1 .answer
 
+-- R83. The device after a tick.
 abbrev pub afterTick : Device → ℕ → Device
 afterTick d reading = rule d (asked (ticking reading)) .0
 
--- what take gives, as far as a message of this length
+-- R83. What take gives, as far as a message of this length.
 abbrev pub takenFrom : Device → ℕ → List ℕ
 takenFrom d long =
     let o = rule d (asked (taking (zeros leastOutput))) .1 in
     o .answer ++ take long (o .output)
 
--- the command that adds the subscription of the notification, and the one that mutes 4097; neither wants a reply
+-- R83. The command that adds the subscription of the notification; it wants no reply.
 abbrev pub subscribe4097 : List ℕ
 subscribe4097 =
     0x3B ∷ 0x00 ∷ 0x01 ∷ 0x00 ∷ 0x00 ∷ 0x00 ∷ 0x31 ∷ 0x00 ∷ 0x00 ∷ 0x01
@@ -70,27 +73,30 @@ subscribe4097 =
     ∷ 0x00 ∷ 0x00 ∷ 0x10 ∷ 0x01 ∷ 0x00 ∷ 0x01 ∷ 0x00 ∷ 0x01 ∷ 0x00 ∷ 0x00 ∷ 0x00 ∷ 0x09 ∷ 0x00 ∷ 0x03 ∷ 0x00
     ∷ 0x01 ∷ 0x01 ∷ 0x02 ∷ 0x03 ∷ 0x04 ∷ 0x01 ∷ 0x00 ∷ 0x00 ∷ []
 
+-- R83. The command that mutes 4097; it wants no reply.
 abbrev pub mute4097 : List ℕ
 mute4097 =
     0x3B ∷ 0x00 ∷ 0x01 ∷ 0x00 ∷ 0x00 ∷ 0x00 ∷ 0x1B ∷ 0x00 ∷ 0x00 ∷ 0x01
     ∷ 0x00 ∷ 0x00 ∷ 0x00 ∷ 0x12 ∷ 0x00 ∷ 0x00 ∷ 0x00 ∷ 0x02 ∷ 0x00 ∷ 0x00 ∷ 0x10 ∷ 0x01 ∷ 0x00 ∷ 0x04 ∷ 0x00 ∷ 0x02 ∷ 0x01
     ∷ 0x01 ∷ []
 
--- connection 0 has subscribed, connection 1 mutes
+-- R83. Connection 0 has subscribed.
 abbrev pub subscribed : Device
 subscribed = afterMessage (twoOpen 0) 0 subscribe4097
 
+-- R83. Then connection 1 has muted 4097.
 abbrev pub waiting : Device
 waiting = afterMessage subscribed 1 mute4097
 
--- a starred message as it is read
+-- R83. A message of the examples as it is read.
 abbrev pub exampleNumbers : Example → List ℕ
 exampleNumbers e = e .reads ++ e .first ++ e .part
 
+-- R83. A row of a message that is read.
 abbrev pub readRow : Example → Row
 readRow e = row (exampleNumbers (worked e)) (exampleNumbers e)
 
--- "Keep-alive 2 s", "2,000 ms": the answer is the same bytes, and the heartbeat is kept in its form
+-- R83. Both keep-alives: the answer is the same bytes, and the heartbeat is kept in its form.
 abbrev pub keepAliveRows : List Row
 keepAliveRows =
     replyRow (twoOpen 0) 0 keepAlive2s keepAlive2s
@@ -99,25 +105,25 @@ keepAliveRows =
     ∷ row (supervisionOf (afterMessage (twoOpen 0) 0 keepAlive2000ms)) (millisecondsForm ∷ 2000 ∷ 0 ∷ [])
     ∷ []
 
--- "Lock 4097, handle 7", "Reply", "last two bytes 03 00 if another holds it"
+-- R83. The lock, its response, and the response where another holds the lock.
 abbrev pub lockRows : List Row
 lockRows =
     replyRow (twoOpen 0) 0 lock4097 (reply7 carriedOut)
     ∷ replyRow (afterMessage (twoOpen 0) 1 lock4097) 0 lock4097 (reply7 heldByOther)
     ∷ []
 
--- "4097 muted, subscriber object 9 method 3.1, context 01 02 03 04"
+-- R83. Nothing to take; then the notification: kind, connection, length, bytes.
 abbrev pub notificationRows : List Row
 notificationRows =
     row (takenFrom subscribed 0) (takingNumbers takings.Nothing)
     ∷ row (takenFrom waiting 41) (takingNumbers (takings.Notification 0 41) ++ muted4097)
     ∷ []
 
--- "Class {1, 3}, version 1"
+-- R83. The class identification of class 1.3.
 abbrev pub classRows : List Row
 classRows = row (identificationOf (1 ∷ 3 ∷ [])) (0x00 ∷ 0x02 ∷ 0x00 ∷ 0x01 ∷ 0x00 ∷ 0x03 ∷ 0x00 ∷ 0x01 ∷ []) ∷ []
 
--- "Reading 4,294,967,000 then 200: step 496. Step 2^31 − 1 passes; 2^31 is refused"
+-- R83. A step round the counter's end, the greatest that passes, and the least that is refused.
 abbrev pub stepRows : List Row
 stepRows =
     row (stepOf 200 4294967000 ∷ []) (496 ∷ [])
@@ -126,9 +132,10 @@ stepRows =
     ∷ row (tickAnswer (twoOpen 0) (2 ^ 31)) (tickingNumbers tickings.ClockBack)
     ∷ []
 
+-- R83. All rows.
 abbrev pub table : List Row
 table = map readRow examples ++ keepAliveRows ++ lockRows ++ notificationRows ++ classRows ++ stepRows
 
--- every row gives what the paper prints
+-- Theorem. Every row gives what R83 prints.
 abbrev pub ExamplesWorked : Type 0
 ExamplesWorked = map (λ (r : Row). r .gives) table ≡ map (λ (r : Row). r .wanted) table

@@ -1,7 +1,4 @@
--- The device's own heartbeat: a connection on which nothing is sent for H is sent something.
--- Document 01 'Time and supervision': "If it stays open and nothing is due, the step is added to quiet; at H or more, due is set
--- and quiet becomes 0. Anything the device sends on a connection clears quiet and due there", and 'Our objects', "Take writes one
--- message and names its connection".
+-- R49 to R55. A connection on which nothing is sent for H is sent something.
 use Prim.Native.Nat.{ℕ, zero, suc, _+_, _<_, _≤_}
 use mathlib.Core.Path.{_≡_}
 use mathlib.Core.Logic.{_⊎_}
@@ -33,23 +30,23 @@ use Rattle.endpoint.specs.declared.Record.{Record}
 use Rattle.promise.specs.Kept.{Kept}
 use Rattle.promise.specs.Technician.{stepAt, passes}
 
--- the record and the area after ticks at these readings, with no other call between
+-- R56. The record and the area after ticks at these readings, with no other call between.
 unfoldable pub ticksCall : Record → List ℕ → List ℕ → Record × List ℕ
 ticksCall r area [] = (r, area)
 ticksCall r area (reading ∷ rest) = ticksCall (tickCall r area reading .state) (tickCall r area reading .area) rest
 
--- none of them is refused
+-- R56. None of them is refused.
 unfoldable pub allPass : Record → List ℕ → List ℕ → Bool
 allPass r area [] = true
 allPass r area (reading ∷ rest) =
     passes r area reading && allPass (tickCall r area reading .state) (tickCall r area reading .area) rest
 
--- the sum of their steps, from the last reading on
+-- R51. The sum of their steps, from the last reading on.
 unfoldable pub ticksTime : ℕ → List ℕ → ℕ
 ticksTime last [] = 0
 ticksTime last (reading ∷ rest) = stepOf reading last + ticksTime reading rest
 
--- connection n is open, with heartbeat H above zero and that quiet, due or not
+-- R54. Connection n is open, with heartbeat H above zero and that quiet, due or not.
 pub record Paced (d : Device) (n H quiet : ℕ) (due : Bool) : Type 0 where
   pub live : liveAt (d .connections) n ≡ true
   pub above : 0 < H
@@ -57,32 +54,33 @@ pub record Paced (d : Device) (n H quiet : ℕ) (due : Bool) : Type 0 where
   pub counted : getD (d .connections) n closed .quiet ≡ quiet
   pub marked : getD (d .connections) n closed .due ≡ due
 
--- connection n is open after the tick; after ticks one after another
+-- R53. Connection n is open after the tick.
 abbrev pub openAfter : Record → List ℕ → ℕ → ℕ → Bool
 openAfter r area reading n = liveAt (tickCall r area reading .state .device .connections) n
 
+-- R53. Connection n is open after ticks one after another.
 abbrev pub openAtLast : Record → List ℕ → List ℕ → ℕ → Bool
 openAtLast r area readings n = liveAt (ticksCall r area readings .0 .device .connections) n
 
 -- ---- what is received
 
--- connection n's undecided bytes and the piece
+-- R28. Connection n's undecided bytes and the piece.
 abbrev pub broughtBy : Record → List ℕ → ℕ → List ℕ → List ℕ
 broughtBy r area n piece = undecidedOf area n (heldAt r n) ++ piece
 
--- the message is a notification or a response
+-- R33. The message is a notification or a response.
 unfoldable pub isUnanswered : List ℕ → Bool
 isUnanswered m = eqb (pduType m) notification || eqb (pduType m) response
 
 -- ---- takes
 
--- a record that row 1 does not refuse, its arrays with their lengths
+-- R61. A record that refusal 1 lets pass, its arrays with their lengths.
 pub record Ready (r : Record) : Type 0 where
   pub obeys : recordObeys r ≡ true
   pub eight : length (r .device .connections) ≡ connectionCount
   pub entries : length (r .device .subscriptions) ≡ entryCount
 
--- the take sends connection n a keep-alive "in its form and with its H", and clears its quiet and due
+-- R49, R50. The take sends connection n a keep-alive of its form and H, and clears its quiet and due.
 pub record Reminds (r : Record) (out : List ℕ) (n H : ℕ) : Type 0 where
   pub heartbeat : Heartbeat
   pub form : formOf heartbeat ≡ getD (r .device .connections) n closed .form
@@ -91,7 +89,7 @@ pub record Reminds (r : Record) (out : List ℕ) (n H : ℕ) : Type 0 where
   pub output : takeCall r out .output ≡ atFront (keepAliveBytes heartbeat) out
   pub after : Paced (takeCall r out .state .device) n H 0 false
 
--- the take sends connection n something, a notification or a keep-alive, clears its quiet and due, and leaves the others as they were
+-- R50. The take sends connection n something, clears its quiet and due, and leaves the others as they were.
 pub record SendsTo (r : Record) (out : List ℕ) (n : ℕ) : Type 0 where
   pub size : ℕ
   pub answer : (takeCall r out .answer ≡ takingNumbers (takings.Notification n size))
@@ -101,28 +99,29 @@ pub record SendsTo (r : Record) (out : List ℕ) (n : ℕ) : Type 0 where
   pub others : (k : ℕ) → eqb k n ≡ false
       → getD (takeCall r out .state .device .connections) k closed ≡ getD (r .device .connections) k closed
 
--- how many elements meet the test
+-- R49. How many elements meet the test.
 abbrev pub count : {A : Type 0} → (A → Bool) → List A → ℕ
 count p [] = 0
 count p (x ∷ l) = cond (p x) 1 0 + count p l
 
--- an entry waits, or a connection is due; how many of both
+-- R49. An entry waits, or a connection is due.
 unfoldable pub somethingWaits : Device → Bool
 somethingWaits d = any isWaiting (d .subscriptions) || any isDue (d .connections)
 
+-- R49. How many entries wait and connections are due.
 unfoldable pub waitingIn : Device → ℕ
 waitingIn d = count isWaiting (d .subscriptions) + count isDue (d .connections)
 
--- no more than every entry and every connection, 40
+-- R49. No more than every entry and every connection, 40.
 abbrev pub mostWaiting : ℕ
 mostWaiting = entryCount + connectionCount
 
--- the record after so many takes with these outputs, with no other call between
+-- R49. The record after so many takes with these outputs, with no other call between.
 unfoldable pub takesCall : Record → (ℕ → List ℕ) → ℕ → Record
 takesCall r outs zero = r
 takesCall r outs (suc k) = takesCall (takeCall r (outs 0) .state) (λ i. outs (suc i)) k
 
--- one of the next takes, fewer than most, sends connection n something
+-- R50. One of the next takes, fewer than most, sends connection n something.
 pub record SentWithin (r : Record) (outs : ℕ → List ℕ) (n most : ℕ) : Type 0 where
   pub which : ℕ
   pub soon : which < most
@@ -130,33 +129,34 @@ pub record SentWithin (r : Record) (outs : ℕ → List ℕ) (n most : ℕ) : Ty
 
 -- ---- what is supposed
 
--- the tick is not refused and leaves connection n open, which was paced so before it
+-- R54. The tick is not refused and leaves connection n open, which was paced so before it.
 pub record PacedTick (r : Record) (area : List ℕ) (reading n H quiet : ℕ) (due : Bool) : Type 0 where
   pub paced : Paced (r .device) n H quiet due
   pub passing : passes r area reading ≡ true
   pub stays : openAfter r area reading n ≡ true
 
--- none of the ticks is refused, and they leave connection n open, which was paced so and not due before them
+-- R54. None of the ticks is refused, and connection n, paced so and not due before, stays open.
 pub record PacedTicks (r : Record) (area readings : List ℕ) (n H quiet : ℕ) : Type 0 where
   pub paced : Paced (r .device) n H quiet false
   pub passing : allPass r area readings ≡ true
   pub stays : openAtLast r area readings n ≡ true
 
--- such ticks, over which quiet comes from below H to H
+-- R54. Such ticks, over which quiet comes from below H to H.
 pub record DueTicks (r : Record) (area readings : List ℕ) (n H quiet : ℕ) : Type 0 where
   pub ticks : PacedTicks r area readings n H quiet
   pub below : quiet < H
   pub reaches : H ≤ quiet + ticksTime (r .device .reading) readings
 
--- the take is not refused
+-- R64. The take is not refused.
 pub record ReadyTake (r : Record) (out : List ℕ) : Type 0 where
   pub ready : Ready r
   pub room : leastOutput ≤ length out
 
--- each output has room
+-- R63. Each output has room.
 abbrev pub Roomy : (ℕ → List ℕ) → Type 0
 Roomy outs = (k : ℕ) → leastOutput ≤ length (outs k)
 
+-- Theorem. A connection that stays open until its quiet reaches H is sent something by one of the next 40 takes.
 pub record HeartbeatSent : Type 0 where
   -- the tick at which quiet reaches H makes the connection due
   pub due : (r : Record) (area : List ℕ) (reading n H quiet : ℕ) → PacedTick r area reading n H quiet false
@@ -174,7 +174,7 @@ pub record HeartbeatSent : Type 0 where
   -- and once the sum has reached H, it is due
   pub dueByThen : (r : Record) (area readings : List ℕ) (n H quiet : ℕ) → DueTicks r area readings n H quiet
       → Paced (ticksCall r area readings .0 .device) n H 0 true
-  -- "Notifications and responses received do no more" than reset the silence: they clear neither quiet nor due
+  -- R33: what is received and not answered clears neither quiet nor due
   pub received : (r : Record) (area : List ℕ) (n : ℕ) (piece out : List ℕ) (t H quiet : ℕ) (due : Bool)
       → Paced (r .device) n H quiet due → decide (broughtBy r area n piece) ≡ Sound t
       → isUnanswered (take t (broughtBy r area n piece)) ≡ true → Paced (deliverCall r area n piece out .state .device) n H quiet due

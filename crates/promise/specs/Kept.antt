@@ -1,5 +1,4 @@
--- What every call keeps: document 01 'Time and supervision', "After every call of demand 3 the record rules hold, and row 2 does
--- not apply to the area".
+-- R62. What every call keeps of record and area.
 use Prim.Native.Nat.{ℕ}
 use mathlib.Core.Path.{_≡_}
 use mathlib.Core.Bool.{true}
@@ -15,12 +14,12 @@ use Rattle.endpoint.specs.Calls.{clearedArea}
 use Rattle.endpoint.specs.declared.Record.{Record}
 use Rattle.promise.specs.Calls.{HostCall, callOf}
 
--- a record and an area that rows 1 and 2 let pass
+-- R62. A record and an area that refusals 1 and 2 let pass.
 pub record Accepted (r : Record) (area : List ℕ) : Type 0 where
   pub obeys : recordObeys r ≡ true
   pub sound : areaSound (r .held) area ≡ true
 
--- rows 1 and 2 do not apply; the arrays have their lengths, and the area is made of bytes
+-- R62. Refusals 1 and 2 do not apply; the arrays have their lengths, and the area is made of bytes.
 pub record Kept (r : Record) (area : List ℕ) : Type 0 where
   pub obeys : recordObeys r ≡ true
   pub sound : areaSound (r .held) area ≡ true
@@ -28,6 +27,7 @@ pub record Kept (r : Record) (area : List ℕ) : Type 0 where
   pub counts : length (r .held) ≡ connectionCount
   pub octets : Octets area
 
+-- Theorem. From a fresh record and a zeroed area, no call leaves what refusal 1 or 2 applies to.
 pub record CallsKeep : Type 0 where
   pub fresh : (reading : ℕ) → Kept (freshState reading) (zeros areaBytes)
   pub clearing : (area : List ℕ) → length area ≡ areaBytes → clearedArea area ≡ zeros areaBytes

@@ -1,4 +1,4 @@
--- Reset by key: document 02 (ii), "A technician at the front desk wants to restart a rack whose controllers have all hung".
+-- R75 to R77. Reset by key, and the channels after it.
 use Prim.Native.Nat.{ℕ, zero, suc, _+_, _<_}
 use mathlib.Core.Path.{_≡_}
 use mathlib.Core.Bool.{Bool, true, false, not, _&&_, _||_}
@@ -39,38 +39,39 @@ use Rattle.promise.specs.Kept.{Accepted}
 use Rattle.promise.specs.Stream.{runCalls, wholeCalls}
 use Rattle.promise.specs.Technician.{lockStatus}
 
--- what a datagram needs to reset: a record and an area that rows 1 and 2 let pass, a mechanism that is armed, the sentinel and its key
+-- R75, R77. What a datagram needs to reset: refusals 1 and 2 do not apply, and it is the sentinel and the armed key.
 pub record Matches (r : Record) (area g : List ℕ) : Type 0 where
   pub accepted : Accepted r area
   pub armed : r .device .mechanism .armed ≡ true
   pub bytes : g ≡ sentinel ++ r .device .mechanism .key
 
--- the datagram is answered by a reset
+-- R75. The datagram is answered by a reset.
 abbrev pub Resets : Record → List ℕ → List ℕ → Type 0
 Resets r area g = datagramCall r area g .answer ≡ resettingNumbers resettings.Done
 
+-- Theorem. A datagram resets exactly when R75 says, and then leaves what R76 says; any other leaves all as it was.
 pub record ResetByKey : Type 0 where
-  -- "resets if the mechanism is armed and the key matches", and exactly then
+  -- R75, and exactly then
   pub resets : (r : Record) (area g : List ℕ) → Matches r area g → Resets r area g
   pub only : (r : Record) (area g : List ℕ) → Resets r area g → Matches r area g
-  -- "A datagram of exactly 24 bytes"
+  -- with a key of 16 bytes it has 24
   pub long : (r : Record) (area g : List ℕ) → length (r .device .mechanism .key) ≡ keyBytes → Resets r area g → length g ≡ 24
-  -- "After the reset the record is a fresh one at the last reading, the area zero and the mechanism disarmed"
+  -- R76: a fresh record at the last reading, and an area of zeros
   pub leaves : (r : Record) (area g : List ℕ) → Resets r area g
       → (datagramCall r area g .state ≡ freshState (r .device .reading)) × (datagramCall r area g .area ≡ zeros areaBytes)
   pub disarms : (reading : ℕ) → freshState reading .device .mechanism ≡ disarmed
   -- the same datagram again does nothing
   pub once : (reading : ℕ) (area g : List ℕ) → ¬ Resets (freshState reading) area g
-  -- "any other changes nothing"
+  -- all other datagrams leave record and area as they were
   pub otherwise : (r : Record) (area g : List ℕ) → ¬ Resets r area g
       → (datagramCall r area g .state ≡ r) × (datagramCall r area g .area ≡ area)
-  -- "the datagram call gives 1 and 2 alone"
+  -- R77: refusals 1 and 2, and no other
   pub refusedRecord : (r : Record) (area g : List ℕ) → recordObeys r ≡ false → datagramCall r area g ≡ refused badRecord r area []
   pub refusedArea : (r : Record) (area g : List ℕ) → recordObeys r ≡ true → areaSound (r .held) area ≡ false
       → datagramCall r area g ≡ refused badArea r area []
   pub nothing : (r : Record) (area g : List ℕ) → Accepted r area → ¬ Resets r area g
       → datagramCall r area g ≡ outcome (resettingNumbers resettings.Nothing) r area []
-  -- "demand 3 counts anew from there": what follows a reset is what follows a fresh record and a zeroed area
+  -- R76: what follows a reset is what follows a fresh record and a zeroed area
   pub anew : (r : Record) (area g : List ℕ) (cs : List HostCall) → Resets r area g
       → let fresh = runCalls (freshState (r .device .reading)) (zeros areaBytes) cs in
       runCalls r area (ask (datagram g) ∷ cs) ≡ (fresh .0, restarted r ∷ fresh .1)
@@ -81,30 +82,32 @@ pub record ResetByKey : Type 0 where
 
 -- ---- the channels after a reset
 
--- of so many entries, one is the lock (1.3) of the channel at that place
+-- R42. The command is the lock of the channel at that place.
 unfoldable pub asksWith : ℕ → CommandFields → Bool
 asksWith at c = eqb (c .target) (firstMute + at) && eqb (methodNumber (c .method .level) (c .method .index)) lockMethod
 
+-- R42. Of so many entries, one is.
 unfoldable pub asksOver : ℕ → ℕ → ℕ → List ℕ → Bool
 asksOver zero at kind t = false
 asksOver (suc j) at kind t = asksWith at (commandOf (take (entrySize kind t) t)) || asksOver j at kind (drop (entrySize kind t) t)
 
--- a message in which a lock of that channel is asked for; a call of the rules
+-- R42. A message in which a lock of that channel is asked for, by what it decides.
 unfoldable pub asksIn : Decision → ℕ → List ℕ → Bool
 asksIn Undecided at m = false
 asksIn (Faulty fault t) at m = false
 asksIn (Sound t) at m = ltb (pduType m) notification && asksOver (messageCount m) at (pduType m) (drop headerEnd m)
 
+-- R42. A call of the rules in which it is.
 unfoldable pub asksFor : ℕ → Asked → Bool
 asksFor at (handed n m out) = asksIn (decide m) at m
 asksFor at (asked a) = false
 
--- none of these calls asks for it
+-- R42. None of these calls asks for it.
 unfoldable pub nobodyAsks : ℕ → List Asked → Bool
 nobodyAsks at [] = true
 nobodyAsks at (w ∷ ws) = not (asksFor at w) && nobodyAsks at ws
 
--- "can he restart a rack from his chair?": after a reset
+-- Theorem. After a reset no channel is held, and whoever asks first for a channel's lock gets it.
 pub record RackFreeAgain : Type 0 where
   -- no channel is held, and whoever then asks for a channel's lock gets it
   pub unheld : (r : Record) (area g : List ℕ) → Resets r area g → (at : ℕ)

@@ -1,4 +1,4 @@
--- Reset by key with numbers: document 02 (ii), worked by the rules as one table.
+-- R70 to R77 with numbers, worked by the rules as one table.
 use Prim.Native.Nat.{ℕ, _+_}
 use mathlib.Core.Path.{_≡_}
 use mathlib.Core.List.{List, [], _∷_, _++_, map}
@@ -17,67 +17,76 @@ use Rattle.stream.specs.Machine.{asked}
 use Rattle.promise.specs.Rulebook.{opening, closing, datagram, rule}
 use Rattle.promise.specs.Examples.{Row, row, twoOpen, afterMessage, replyRow}
 
--- a command of 3.14 for an object, with handle 7 and this parameter count
+-- R71. A command of 3.14 for an object, with handle 7 and this parameter count.
 abbrev pub setKey : ℕ → ℕ → List ℕ → List ℕ
 setKey object count part =
     layouts.message 1 1 (bytes32 (17 + length part) ++ (bytes32 7 ++ (bytes32 object ++ (0 ∷ 3 ∷ 0 ∷ 14 ∷ count ∷ part))))
 
--- its parameters: the key, the text's length, the text, the port
+-- R71. Its parameters: the key, the text's length, the text, the port.
 abbrev pub arguments : List ℕ → ℕ → List ℕ → ℕ → List ℕ
 arguments key size text port = key ++ (bytes16 size ++ (text ++ bytes16 port))
 
--- 00 01 .. 0F, and another in one bit
+-- R70. A key, 00 01 .. 0F.
 abbrev pub keyA : List ℕ
 keyA = 0x00 ∷ 0x01 ∷ 0x02 ∷ 0x03 ∷ 0x04 ∷ 0x05 ∷ 0x06 ∷ 0x07 ∷ 0x08 ∷ 0x09 ∷ 0x0A ∷ 0x0B ∷ 0x0C ∷ 0x0D ∷ 0x0E ∷ 0x0F ∷ []
 
+-- R70. A key that differs from it in one bit.
 abbrev pub keyB : List ℕ
 keyB = 0x00 ∷ 0x01 ∷ 0x02 ∷ 0x03 ∷ 0x04 ∷ 0x05 ∷ 0x06 ∷ 0x07 ∷ 0x08 ∷ 0x09 ∷ 0x0A ∷ 0x0B ∷ 0x0C ∷ 0x0D ∷ 0x0E ∷ 0x0E ∷ []
 
+-- R70. A key of zeros.
 abbrev pub noKey : List ℕ
 noKey = replicate 16 0
 
--- "239.255.0.1"; "240.0.0.1"; "223.255.255.255"; "0.0.0.0"; "239.1.1.01"; "239.1.1"
+-- R73. The text 239.255.0.1, which is taken.
 abbrev pub text239 : List ℕ
 text239 = 50 ∷ 51 ∷ 57 ∷ 46 ∷ 50 ∷ 53 ∷ 53 ∷ 46 ∷ 48 ∷ 46 ∷ 49 ∷ []
 
+-- R73. The text 240.0.0.1, above multicast.
 abbrev pub text240 : List ℕ
 text240 = 50 ∷ 52 ∷ 48 ∷ 46 ∷ 48 ∷ 46 ∷ 48 ∷ 46 ∷ 49 ∷ []
 
+-- R73. The text 223.255.255.255, below multicast.
 abbrev pub text223 : List ℕ
 text223 = 50 ∷ 50 ∷ 51 ∷ 46 ∷ 50 ∷ 53 ∷ 53 ∷ 46 ∷ 50 ∷ 53 ∷ 53 ∷ 46 ∷ 50 ∷ 53 ∷ 53 ∷ []
 
+-- R73. The text 0.0.0.0, which is no group.
 abbrev pub text0 : List ℕ
 text0 = 48 ∷ 46 ∷ 48 ∷ 46 ∷ 48 ∷ 46 ∷ 48 ∷ []
 
+-- R72. The text 239.1.1.01, with a zero in front.
 abbrev pub textLeading : List ℕ
 textLeading = 50 ∷ 51 ∷ 57 ∷ 46 ∷ 49 ∷ 46 ∷ 49 ∷ 46 ∷ 48 ∷ 49 ∷ []
 
+-- R72. The text 239.1.1, of three parts.
 abbrev pub textShort : List ℕ
 textShort = 50 ∷ 51 ∷ 57 ∷ 46 ∷ 49 ∷ 46 ∷ 49 ∷ []
 
--- the device with connections 0 and 1 open, first read at 5000, after connection 0 armed it with a key, a text and port 50,000
+-- R73. A device read at 5000, connections 0 and 1 open, armed by 0 with a key, a text and port 50,000.
 abbrev pub armedWith : List ℕ → List ℕ → Device
 armedWith key text = afterMessage (twoOpen 5000) 0 (setKey deviceManager 2 (arguments key (length text) text 50000))
 
--- and then by connection 1 with another key
+-- R74. And then by connection 1 with another key.
 abbrev pub armedAgain : Device
 armedAgain = afterMessage (armedWith keyA []) 1 (setKey deviceManager 2 (arguments keyB 0 [] 50000))
 
+-- R70. A device's key, address and port.
 abbrev pub mechanismOf : Device → List ℕ
 mechanismOf d = d .mechanism .key ++ (d .mechanism .address ++ (d .mechanism .port ∷ []))
 
+-- R76. The device after a datagram.
 abbrev pub afterDatagram : Device → List ℕ → Device
 afterDatagram d g = rule d (asked (datagram g)) .0
 
--- the reply to a 3.14 with these parameters
+-- R73. A 3.14 with these parameters, and the status of its response.
 abbrev pub statusRow : List ℕ → ℕ → Row
 statusRow part status = replyRow (twoOpen 0) 0 (setKey deviceManager 2 part) (reply7 status)
 
--- the answer to a datagram
+-- R77. A datagram, and the answer that it is to get.
 abbrev pub datagramRow : Device → List ℕ → Resetting → Row
 datagramRow d g answer = row (rule d (asked (datagram g)) .1 .answer) (resettingNumbers answer)
 
--- "status 4 for wrong count or lengths, then 7 for the text or port 0"
+-- R71, R73. Statuses 0, 7 and 4 of 3.14, and 11 on another object.
 abbrev pub statusRows : List Row
 statusRows =
     statusRow (arguments keyA 0 [] 50000) carriedOut
@@ -97,7 +106,7 @@ statusRows =
     ∷ replyRow (twoOpen 0) 0 (setKey subscriptionManager 2 (arguments keyA 0 [] 50000)) (reply7 noMethod)
     ∷ []
 
--- "The record keeps key, address (4 bytes, zeros for no text) and port"; "a closure leaves it"; "The latest key counts"
+-- R70, R74. What the record keeps, that a closure leaves it, and that the last key counts.
 abbrev pub keptRows : List Row
 keptRows =
     row (mechanismOf (armedWith keyA [])) (keyA ++ (0 ∷ 0 ∷ 0 ∷ 0 ∷ 50000 ∷ []))
@@ -107,7 +116,7 @@ keptRows =
     ∷ datagramRow armedAgain (sentinel ++ keyB) resettings.Done
     ∷ []
 
--- "A datagram of exactly 24 bytes, the sentinel .. and the key, resets if the mechanism is armed and the key matches"
+-- R75. Which datagrams reset.
 abbrev pub datagramRows : List Row
 datagramRows =
     datagramRow (armedWith keyA []) (sentinel ++ keyA) resettings.Done
@@ -119,13 +128,15 @@ datagramRows =
     ∷ datagramRow (twoOpen 0) (sentinel ++ noKey) resettings.Nothing
     ∷ []
 
--- connection 0 holds 4097 and has hung: another gets status 3; after the reset, whoever comes as connection 0 gets status 0
+-- R76. Connection 0 holds 4097 and has hung.
 abbrev pub hung : Device
 hung = afterMessage (armedWith keyA []) 0 lock4097
 
+-- R76. The device after a reset, with connection 0 opened again.
 abbrev pub again : Device
 again = rule (afterDatagram hung (sentinel ++ keyA)) (asked opening) .0
 
+-- R76. Another gets status 3 before the reset, a new controller status 0 after it.
 abbrev pub rackRows : List Row
 rackRows =
     replyRow hung 1 lock4097 (reply7 heldByOther)
@@ -135,9 +146,10 @@ rackRows =
     ∷ datagramRow again (sentinel ++ noKey) resettings.Nothing
     ∷ []
 
+-- R71, R73, R74, R75, R76. All rows.
 abbrev pub resetTable : List Row
 resetTable = statusRows ++ keptRows ++ datagramRows ++ rackRows
 
--- every row gives what is wanted
+-- Theorem. Every row gives what is wanted.
 abbrev pub ResetWorked : Type 0
 ResetWorked = map (λ (r : Row). r .gives) resetTable ≡ map (λ (r : Row). r .wanted) resetTable

@@ -1,5 +1,4 @@
--- Whose key counts, and who learns of it: document 02 (ii), "The latest key counts; it is the device's, not the connection's, and a
--- closure leaves it".
+-- R74. Whose key counts, and who learns of it.
 use Prim.Native.Nat.{ℕ, zero, suc}
 use mathlib.Core.Path.{_≡_}
 use mathlib.Core.Bool.{Bool, cond, true, not, _&&_}
@@ -37,36 +36,37 @@ use Rattle.promise.specs.Stream.{runCalls, wholeCalls, GoodState}
 
 -- ---- the latest key
 
--- 3.14 of object 1 whose arguments are taken
+-- R74. 3.14 of object 1 whose arguments are taken.
 unfoldable pub isArming : ℕ → ℕ → ℕ → List ℕ → Bool
 isArming target m count part =
     eqb target deviceManager && (eqb m resetKeyMethod && (not (isMalformed m count part) && not (isUntaken part)))
 
--- the mechanism after a command
+-- R74. The mechanism after a command.
 unfoldable pub keyedBy : Mechanism → ℕ → ℕ → ℕ → List ℕ → Mechanism
 keyedBy k target m count part = cond (isArming target m count part) (armedBy part) k
 
--- after the command of these fields and this part
+-- R74. The mechanism after the command of these fields and this part.
 unfoldable pub keyedWith : Mechanism → CommandFields → List ℕ → Mechanism
 keyedWith k c part = keyedBy k (c .target) (methodNumber (c .method .level) (c .method .index)) (c .count) part
 
--- after so many entries of a message
+-- R74. The mechanism after so many entries of a message.
 unfoldable pub keyedOver : ℕ → Mechanism → ℕ → List ℕ → Mechanism
 keyedOver zero k kind t = k
 keyedOver (suc j) k kind t =
     keyedOver j (keyedWith k (commandOf (take (entrySize kind t) t)) (parametersOf kind (take (entrySize kind t) t))) kind
     (drop (entrySize kind t) t)
 
--- after a sound message: commands alone touch it
+-- R74. The mechanism after a sound message: commands alone touch it.
 unfoldable pub keyedIn : Mechanism → List ℕ → Mechanism
 keyedIn k m = cond (ltb (pduType m) notification) (keyedOver (messageCount m) k (pduType m) (drop headerEnd m)) k
 
+-- R74. The mechanism after a whole message, by what it decides.
 unfoldable pub keyedMessage : Decision → Mechanism → List ℕ → Mechanism
 keyedMessage Undecided k m = k
 keyedMessage (Faulty fault t) k m = k
 keyedMessage (Sound t) k m = keyedIn k m
 
--- after a call of the rules
+-- R74. The mechanism after a call of the rules.
 unfoldable pub latest : Mechanism → Asked → Mechanism
 latest k (handed n m out) = keyedMessage (decide m) k m
 latest k (asked opening) = k
@@ -75,11 +75,12 @@ latest k (asked (ticking reading)) = k
 latest k (asked (taking out)) = k
 latest k (asked (datagram g)) = cond (resets k g) disarmed k
 
--- after calls one after another
+-- R74. The mechanism after calls one after another.
 unfoldable pub latestOver : Mechanism → List Asked → Mechanism
 latestOver k [] = k
 latestOver k (w ∷ ws) = latestOver (latest k w) ws
 
+-- Theorem. Of all calls only a 3.14 with status 0 and a reset change the mechanism; the last one counts.
 pub record LatestKeyCounts : Type 0 where
   -- a command arms exactly where it is 3.14 of object 1 and gets status 0
   pub arming : (d : Device) (n target m count : ℕ) (part : List ℕ)
@@ -96,25 +97,26 @@ pub record LatestKeyCounts : Type 0 where
 
 -- ---- the key stays inside
 
--- a record with another key
+-- R70. A record with another key.
 abbrev pub rekeyed : Record → List ℕ → Record
 rekeyed r key = stateOf (withMechanism (r .device) (withKey (r .device .mechanism) key)) (r .held)
 
--- two armed records that are alike but for their keys
+-- R70. Two armed records that are alike but for their keys.
 pub record AlikeButKey (r s : Record) : Type 0 where
   pub armed : r .device .mechanism .armed ≡ true
   pub alike : s ≡ rekeyed r (s .device .mechanism .key)
 
--- what is seen of a call: its answer, and each byte of the area and the output
+-- R68. What is seen of a call: its answer, and each byte of the area and the output.
 pub record Seen : Type 0 where
   pub answer : List ℕ
   pub area : List ℕ
   pub output : List ℕ
 
+-- R68. What is seen of an outcome.
 abbrev pub seen : Outcome → Seen
 seen o = record { answer = o .answer; area = o .area; output = o .output }
 
--- neither record is reset by the call: it is no datagram, or one that is neither's key
+-- R75. Neither record is reset by the call: it is no datagram, or one that is neither's key.
 unfoldable pub isNoReset : Record → Record → HostCall → Bool
 isNoReset r s (deliver n piece out) = true
 isNoReset r s (ask opening) = true
@@ -123,12 +125,13 @@ isNoReset r s (ask (ticking reading)) = true
 isNoReset r s (ask (taking out)) = true
 isNoReset r s (ask (datagram g)) = not (resets (r .device .mechanism) g) && not (resets (s .device .mechanism) g)
 
--- nor by any of these calls, made on each record and its area
+-- R75. Nor by any of these calls, made on each record and its area.
 unfoldable pub noReset : Record → List ℕ → Record → List ℕ → List HostCall → Bool
 noReset r x s y [] = true
 noReset r x s y (c ∷ cs) =
     isNoReset r s c && noReset (callOf r x c .state) (callOf r x c .area) (callOf s y c .state) (callOf s y c .area) cs
 
+-- Theorem. Until a reset comes, nothing that is seen of any calls tells one key from another.
 pub record KeyStaysInside : Type 0 where
   -- every call, an arming and a wrong datagram too: nothing that is seen tells the keys apart, and the records are again alike but for them
   pub call : (r s : Record) (area : List ℕ) (c : HostCall) → AlikeButKey r s → isNoReset r s c ≡ true

@@ -1,6 +1,4 @@
--- THE STREAM THEOREM, demand 3: "let several connections' bytes arrive cut anywhere and mixed, with openings, closings, clock
--- readings and takings between: everything is what document 01's rules give when each message, up to its deciding byte, is handed
--- over whole at the place of its deciding byte; only undecided bytes remain besides". Document 02 (ii)'s datagrams are among the calls.
+-- R81. THE STREAM THEOREM: bytes cut anywhere and mixed come to what the rules give over whole messages.
 use Prim.Native.Nat.{ℕ}
 use mathlib.Core.Path.{_≡_}
 use mathlib.Core.Bool.{true, false}
@@ -22,8 +20,7 @@ use Rattle.promise.specs.Rulebook.{Asked, Given, rule, open?, admit, shu
 use Rattle.promise.specs.Calls.{HostCall, callOf, recordWith, areaWith, outcomeOf}
 use Rattle.promise.specs.Kept.{Kept}
 
--- a list of calls, by the definitions that the contracts of the real calls cite, each state passed on as handed back:
--- the last record and area, and what each call gave
+-- R81. A list of calls, each state passed on: the last record and area, and what each call gave.
 unfoldable pub runCalls : Record → List ℕ → List HostCall → (Record × List ℕ) × List Outcome
 runCalls r area [] = ((r, area), [])
 runCalls r area (c ∷ cs) =
@@ -31,37 +28,39 @@ runCalls r area (c ∷ cs) =
     let t = runCalls (o .state) (o .area) cs in
     (t .0, o ∷ t .1)
 
--- what each call is to give: the machine over pieces, whose device is the rules' and whose bytes are the undecided ones
+-- R81. What each call is to give: the device is the rules', the bytes are the undecided ones.
 unfoldable pub gives : Device → Held → List HostCall → List Outcome
 gives d h [] = []
 gives d h (c ∷ cs) =
     let s = step rule open? admit d h c in
     outcomeOf c (s .0 .0) (s .0 .1) (s .1) ∷ gives (s .0 .0) (s .0 .1) cs
 
+-- R81. The run over pieces, by the rules.
 abbrev pub machine : Device → Held → List HostCall → (Device × Held) × List (HostCall × Answer Given)
 machine d h cs = run rule open? admit d h cs
 
--- the whole calls that a host glues together from such a run
+-- R81. The whole calls that a host glues together from a run over pieces.
 abbrev pub wholeCalls : Device → Held → List HostCall → List Asked
 wholeCalls d h cs = glue shut h (machine d h cs .1) .0
 
--- device d with h held keeps the rules, and its undecided bytes wait
+-- R81. Device d with h held keeps the rules, and its undecided bytes wait.
 abbrev pub GoodState : Device → Held → Type 0
 GoodState d h = Good rule open? admit shut Fine d h
 
--- the record and the area are those of a device with some bytes held
+-- R81. The record and the area are those of a device with some bytes held.
 pub record DeviceWithBytes (r : Record) (area : List ℕ) : Type 0 where
   pub held : Held
   pub good : GoodState (r .device) held
   pub state : r ≡ recordWith (r .device) held
   pub bytes : area ≡ areaWith held
 
+-- Theorem. The real calls give, call for call, what the rules give over whole messages.
 pub record StreamTheorem : Type 0 where
   -- a fresh record and a zeroed area are device freshOf with nothing held
   pub fresh : (reading : ℕ) → GoodState (freshOf reading) none-held
   pub freshState : (reading : ℕ) → freshState reading ≡ recordWith (freshOf reading) none-held
   pub freshArea : zeros areaBytes ≡ areaWith none-held
-  -- every record and area to which rows 1 and 2 do not apply is a device with some bytes held
+  -- every record and area to which refusals 1 and 2 do not apply is a device with some bytes held
   pub any : (r : Record) (area : List ℕ) → Kept r area → DeviceWithBytes r area
   -- the real calls, from any such state, give what the machine over pieces gives, and end where it ends: the record's counts and
   -- the area are the undecided bytes and nothing else
@@ -72,18 +71,18 @@ pub record StreamTheorem : Type 0 where
   pub whole : (d : Device) (h : Held) (cs : List HostCall) → GoodState d h → AllBytes cs
       → Streamed rule open? admit shut Fine d h (machine d h cs .0) (machine d h cs .1)
 
--- "the cutting does not matter": two runs that took the same bytes at the same places come to the same device, answers and bytes
+-- Theorem. Two runs that took the same bytes at the same places come to the same device, answers and bytes.
 pub record CuttingDoesNotMatter : Type 0 where
   pub recut : (d : Device) (h : Held) (cs ds : List HostCall) → GoodState d h → AllBytes cs → AllBytes ds
       → drips (zeros leastOutput) (machine d h cs .1) ≡ drips (zeros leastOutput) (machine d h ds .1)
       → comesTo rule open? admit d h cs ≡ comesTo rule open? admit d h ds
 
--- a call that is not a delivery to connection c
+-- R81. A call that is not a delivery to connection c.
 abbrev pub NotTo : ℕ → HostCall → Type 0
 NotTo c (deliver d q x) = d ≢ c
 NotTo c (ask a) = Unit {0}
 
--- "mixing does not matter": undecided bytes of one connection commute with calls on others
+-- Theorem. Undecided bytes of one connection commute with calls on others.
 pub record MixingDoesNotMatter : Type 0 where
   pub swap : (d : Device) (h : Held) (c : ℕ) (p room : List ℕ) (x : HostCall) → admit d c room ≡ 0
       → settled (decide (h c ++ p)) ≡ false → NotTo c x → open? (step rule open? admit d h x .0 .0) c ≡ true

@@ -1,6 +1,4 @@
--- "Channel 5 says it is locked by a tablet that has been switched off. When does your amplifier let me in?"
--- Document 01 'Time and supervision': "While the heartbeat H (in milliseconds) is above zero, a tick adds the step to silence; at
--- 3 × H or more the connection is closed", and "A closure frees the connection's locks".
+-- R51 to R53, R60. When a lock is free whose holder is switched off: the technician's question.
 use Prim.Native.Nat.{ℕ, _+_, _*_, _^_, _<_, _≤_}
 use mathlib.Core.Path.{_≡_}
 use mathlib.Core.Bool.{Bool, true, false, not, _&&_, _||_}
@@ -31,8 +29,7 @@ use Rattle.promise.specs.Rulebook.{opening, closing, ticking, taking, da
 use Rattle.promise.specs.Calls.{HostCall, callOf}
 use Rattle.promise.specs.Kept.{Accepted}
 
--- connection n of a device of eight is open, with heartbeat H above zero and that silence; that the device obeys the rules follows
--- where a call is not refused
+-- R53. Connection n of a device of eight is open, with heartbeat H above zero and that silence.
 pub record Watched (d : Device) (n H silence : ℕ) : Type 0 where
   pub eight : length (d .connections) ≡ connectionCount
   pub live : liveAt (d .connections) n ≡ true
@@ -40,15 +37,15 @@ pub record Watched (d : Device) (n H silence : ℕ) : Type 0 where
   pub beat : getD (d .connections) n closed .beat ≡ H
   pub silent : getD (d .connections) n closed .silence ≡ silence
 
--- the step of a tick
+-- R51. The step of a tick.
 abbrev pub stepAt : Record → ℕ → ℕ
 stepAt r reading = stepOf reading (r .device .reading)
 
--- the tick is not refused
+-- R56. The tick is not refused.
 unfoldable pub passes : Record → List ℕ → ℕ → Bool
 passes r area reading = eqb (getD (tickCall r area reading .answer) 0 badRecord) notRefused
 
--- the tick closes connection n: bit n of its answer is set, nothing of the connection is left, and its count of bytes is 0
+-- R53. The tick closes connection n: its bit is set, nothing of the connection is left, its count is 0.
 pub record Closes (r : Record) (area : List ℕ) (reading n : ℕ) : Type 0 where
   pub mask : ℕ
   pub answer : tickCall r area reading .answer ≡ tickingNumbers (tickings.Closed mask)
@@ -56,7 +53,7 @@ pub record Closes (r : Record) (area : List ℕ) (reading n : ℕ) : Type 0 wher
   pub gone : Gone n (r .device) (tickCall r area reading .state .device)
   pub bytes : getD (tickCall r area reading .state .held) n 0 ≡ 0
 
--- the tick leaves connection n open, with that silence and the same H: its bit is not set, its locks and entries are as they were
+-- R53. The tick leaves connection n open, with that silence, the same H, and its locks and entries.
 pub record Leaves (r : Record) (area : List ℕ) (reading n H silence : ℕ) : Type 0 where
   pub mask : ℕ
   pub answer : tickCall r area reading .answer ≡ tickingNumbers (tickings.Closed mask)
@@ -64,14 +61,13 @@ pub record Leaves (r : Record) (area : List ℕ) (reading n H silence : ℕ) : T
   pub watched : Watched (tickCall r area reading .state .device) n H silence
   pub stays : Stays n (r .device) (tickCall r area reading .state .device)
 
--- what connection k gets for its lock of the mute at that place
+-- R42. What connection k gets for its lock of the mute at that place.
 abbrev pub lockStatus : Device → ℕ → ℕ → ℕ
 lockStatus d k at = runOf d k (firstMute + at) lockMethod 0 [] .answer .status
 
 -- ---- calls one after another
 
--- by this call connection n neither says a whole message nor is closed by the host: a tick that is not refused, bytes of its own that
--- decide nothing, another's bytes or close, an opening, a taking, a datagram that does not reset
+-- R32. By this call connection n neither says a whole message nor is closed by the host or a reset.
 unfoldable pub isSilent : ℕ → Record → List ℕ → HostCall → Bool
 isSilent n r area (deliver k piece out) = not (eqb k n) || not (settled (decide (undecidedOf area k (heldAt r k) ++ piece)))
 isSilent n r area (ask opening) = true
@@ -80,16 +76,17 @@ isSilent n r area (ask (ticking reading)) = passes r area reading
 isSilent n r area (ask (taking out)) = true
 isSilent n r area (ask (datagram g)) = not (resets (r .device .mechanism) g)
 
--- the record and the area after these calls, and that connection n is silent in all of them
+-- R81. The record and the area after these calls.
 unfoldable pub callsOf : Record → List ℕ → List HostCall → Record × List ℕ
 callsOf r area [] = (r, area)
 callsOf r area (c ∷ rest) = callsOf (callOf r area c .state) (callOf r area c .area) rest
 
+-- R32. Connection n is silent in all of these calls.
 unfoldable pub allSilent : ℕ → Record → List ℕ → List HostCall → Bool
 allSilent n r area [] = true
 allSilent n r area (c ∷ rest) = isSilent n r area c && allSilent n (callOf r area c .state) (callOf r area c .area) rest
 
--- "Only a tick brings time": the reading after a call, the step of a call, and the sum of the steps from a last reading on
+-- R51. The last reading after a call.
 unfoldable pub readingBy : ℕ → HostCall → ℕ
 readingBy last (deliver k piece out) = last
 readingBy last (ask opening) = last
@@ -98,6 +95,7 @@ readingBy last (ask (ticking reading)) = reading
 readingBy last (ask (taking out)) = last
 readingBy last (ask (datagram g)) = last
 
+-- R51. The step of a call: 0 for all but a tick.
 unfoldable pub stepBy : ℕ → HostCall → ℕ
 stepBy last (deliver k piece out) = 0
 stepBy last (ask opening) = 0
@@ -106,53 +104,55 @@ stepBy last (ask (ticking reading)) = stepOf reading last
 stepBy last (ask (taking out)) = 0
 stepBy last (ask (datagram g)) = 0
 
+-- R51. The sum of the steps of some calls, from a last reading on.
 unfoldable pub timeOf : ℕ → List HostCall → ℕ
 timeOf last [] = 0
 timeOf last (c ∷ rest) = stepBy last c + timeOf (readingBy last c) rest
 
--- these calls, and a tick behind them
+-- R51. These calls, and then a tick.
 abbrev pub thenTick : List HostCall → ℕ → List HostCall
 thenTick calls reading = calls ++ (ask (ticking reading) ∷ [])
 
 -- ---- what is supposed
 
--- the tick is not refused, and connection n is watched with that silence
+-- R53. The tick is not refused, and connection n is watched with that silence.
 pub record WatchedTick (r : Record) (area : List ℕ) (reading n H silence : ℕ) : Type 0 where
   pub watched : Watched (r .device) n H silence
   pub passing : passes r area reading ≡ true
 
--- such a tick, at which the silence reaches three heartbeats
+-- R53. Such a tick, at which the silence comes to 3 × H.
 pub record OverdueTick (r : Record) (area : List ℕ) (reading n H silence : ℕ) : Type 0 where
   pub tick : WatchedTick r area reading n H silence
   pub reaches : 3 * H ≤ silence + stepAt r reading
 
--- connection n is watched and silent in all these calls, and its silence stays below three heartbeats
+-- R53. Connection n is watched and silent in all these calls, and its silence stays below 3 × H.
 pub record SilentCalls (r : Record) (area : List ℕ) (calls : List HostCall) (n H silence : ℕ) : Type 0 where
   pub watched : Watched (r .device) n H silence
   pub silent : allSilent n r area calls ≡ true
   pub below : silence + timeOf (r .device .reading) calls < 3 * H
 
--- connection n is watched and silent in these calls and a tick, the first at which its silence reaches three heartbeats
+-- R53. Connection n is watched and silent in these calls and a tick, the first at which silence reaches 3 × H.
 pub record OverdueCalls (r : Record) (area : List ℕ) (calls : List HostCall) (reading n H silence : ℕ) : Type 0 where
   pub watched : Watched (r .device) n H silence
   pub silent : allSilent n r area (thenTick calls reading) ≡ true
   pub below : silence + timeOf (r .device .reading) calls < 3 * H
   pub reaches : 3 * H ≤ silence + timeOf (r .device .reading) (thenTick calls reading)
 
--- connection n holds the lock of the mute at that place
+-- R42. Connection n holds the lock of the mute at that place.
 pub record HoldsLock (d : Device) (n at : ℕ) : Type 0 where
   pub place : at < muteCount
   pub holder : getD (d .holders) at 0 ≡ n + 1
 
 -- ---- with numbers
 
--- with heartbeat H a silence of that last number stays open, and the next one closes
+-- R53. With heartbeat H a silence of that last number stays open, and the next one closes.
 pub record Exactly (H last next : ℕ) : Type 0 where
   pub stays : (r : Record) (area : List ℕ) (reading n silence : ℕ) → WatchedTick r area reading n H silence
       → silence + stepAt r reading ≡ last → Leaves r area reading n H last
   pub closes : (r : Record) (area : List ℕ) (reading n silence : ℕ) → WatchedTick r area reading n H silence
       → silence + stepAt r reading ≡ next → Closes r area reading n
 
+-- Theorem. The tick at which the silence reaches 3 × H lets the technician in, and none does before.
 pub record TechnicianLetIn : Type 0 where
   -- the tick at which the silence reaches three heartbeats closes the tablet's connection
   pub closes : (r : Record) (area : List ℕ) (reading n H silence : ℕ) → OverdueTick r area reading n H silence
@@ -184,7 +184,7 @@ pub record TechnicianLetIn : Type 0 where
   -- half a message changes neither silence nor lock: bytes that decide nothing leave the device as it is
   pub halfMessage : (r : Record) (area : List ℕ) (n : ℕ) (piece out : List ℕ)
       → decide (undecidedOf area n (heldAt r n) ++ piece) ≡ Undecided → deliverCall r area n piece out .state .device ≡ r .device
-  -- a record and an area that rows 1 and 2 let pass: a step of 2^31 − 1 passes, and one of 2^31 is refused
+  -- where refusals 1 and 2 let record and area pass, a step of 2^31 − 1 passes, and one of 2^31 is refused
   pub passing : (r : Record) (area : List ℕ) (reading : ℕ) → Accepted r area → stepAt r reading < 2 ^ 31
       → passes r area reading ≡ true
   pub refusing : (r : Record) (area : List ℕ) (reading : ℕ) → Accepted r area → 2 ^ 31 ≤ stepAt r reading
@@ -194,5 +194,5 @@ pub record TechnicianLetIn : Type 0 where
   pub twoSeconds : Exactly 2000 5999 6000
   pub mostSeconds : Exactly 65535000 196604999 196605000
   pub mostMilliseconds : Exactly 4294967295 12884901884 12884901885
-  -- "Reading 4,294,967,000 then 200: step 496"
+  -- a step round the counter's end
   pub around : stepOf 200 4294967000 ≡ 496

@@ -14,7 +14,7 @@ pub fn calls_keep()
     ensures { λ _. ⌜ CallsKeep ⌝ }
 {}
 
-// Bytes cut anywhere and mixed come to what document 01's rules give over whole messages.
+// R81. Bytes cut anywhere and mixed come to what the rules give over whole messages.
 pub fn stream_theorem()
     ensures { λ _. ⌜ StreamTheorem ⌝ }
 {}
@@ -27,7 +27,7 @@ pub fn mixing_does_not_matter()
     ensures { λ _. ⌜ MixingDoesNotMatter ⌝ }
 {}
 
-// The starred examples of document 01.
+// R83. The examples, as one table.
 pub fn examples_worked()
     ensures { λ _. ⌜ ExamplesWorked ⌝ }
 {}

@@ -1,40 +1,45 @@
--- The starred messages of document 01 'Bench examples' that are read: one table.
+-- R83. The messages of the examples that are read: one table.
 use Prim.Native.Nat.{ℕ}
 use mathlib.Core.Path.{_≡_}
 use mathlib.Core.List.{List, [], _∷_, map}
 use Rattle.reader.specs.Read.{readOf}
 use Rattle.reader.specs.Entry.{entryOf, partOf}
 
--- a message's bytes, and the numbers that reading it, its entry 0 and that entry's part gives
+-- R83. A message's bytes, and the numbers that reading it, its entry 0 and that entry's part gives.
 pub record Example : Type 0 where
   pub bytes : List ℕ
   pub reads : List ℕ
   pub first : List ℕ
   pub part : List ℕ
 
+-- R83. The keep-alive of 2 s.
 abbrev pub keepAlive2s : List ℕ
 keepAlive2s = 0x3B ∷ 0x00 ∷ 0x01 ∷ 0x00 ∷ 0x00 ∷ 0x00 ∷ 0x0B ∷ 0x04 ∷ 0x00 ∷ 0x01 ∷ 0x00 ∷ 0x02 ∷ []
 
+-- R83. The keep-alive of 2,000 ms.
 abbrev pub keepAlive2000ms : List ℕ
 keepAlive2000ms = 0x3B ∷ 0x00 ∷ 0x01 ∷ 0x00 ∷ 0x00 ∷ 0x00 ∷ 0x0D ∷ 0x04 ∷ 0x00 ∷ 0x01 ∷ 0x00 ∷ 0x00 ∷ 0x07 ∷ 0xD0 ∷ []
 
+-- R83. The lock of 4097, handle 7.
 abbrev pub lock4097 : List ℕ
 lock4097 =
     0x3B ∷ 0x00 ∷ 0x01 ∷ 0x00 ∷ 0x00 ∷ 0x00 ∷ 0x1A ∷ 0x01 ∷ 0x00 ∷ 0x01
     ∷ 0x00 ∷ 0x00 ∷ 0x00 ∷ 0x11 ∷ 0x00 ∷ 0x00 ∷ 0x00 ∷ 0x07 ∷ 0x00 ∷ 0x00 ∷ 0x10 ∷ 0x01 ∷ 0x00 ∷ 0x01 ∷ 0x00 ∷ 0x03 ∷ 0x00 ∷ []
 
--- the reply to it, with the status given
+-- R83. The reply to it, with the status given.
 abbrev pub reply7 : ℕ → List ℕ
 reply7 status =
     0x3B ∷ 0x00 ∷ 0x01 ∷ 0x00 ∷ 0x00 ∷ 0x00 ∷ 0x13 ∷ 0x03 ∷ 0x00 ∷ 0x01
     ∷ 0x00 ∷ 0x00 ∷ 0x00 ∷ 0x0A ∷ 0x00 ∷ 0x00 ∷ 0x00 ∷ 0x07 ∷ status ∷ 0x00 ∷ []
 
+-- R83. The notification that 4097 is muted.
 abbrev pub muted4097 : List ℕ
 muted4097 =
     0x3B ∷ 0x00 ∷ 0x01 ∷ 0x00 ∷ 0x00 ∷ 0x00 ∷ 0x28 ∷ 0x02 ∷ 0x00 ∷ 0x01
     ∷ 0x00 ∷ 0x00 ∷ 0x00 ∷ 0x1F ∷ 0x00 ∷ 0x00 ∷ 0x00 ∷ 0x09 ∷ 0x00 ∷ 0x03 ∷ 0x00 ∷ 0x01 ∷ 0x02 ∷ 0x01 ∷ 0x02 ∷ 0x03 ∷ 0x04
     ∷ 0x00 ∷ 0x00 ∷ 0x10 ∷ 0x01 ∷ 0x00 ∷ 0x01 ∷ 0x00 ∷ 0x01 ∷ 0x00 ∷ 0x04 ∷ 0x00 ∷ 0x01 ∷ 0x01 ∷ 0x01 ∷ []
 
+-- R83. The messages, each with what is read of it.
 abbrev pub examples : List Example
 examples =
     record { bytes = keepAlive2s; reads = 0 ∷ 12 ∷ 4 ∷ 1 ∷ 1 ∷ 2 ∷ []; first = 12 ∷ []; part = [] }
@@ -50,10 +55,10 @@ examples =
     }
     ∷ []
 
--- a row as the definitions work it out
+-- R83. A row as the definitions work it out.
 abbrev pub worked : Example → Example
 worked e = record { bytes = e .bytes; reads = readOf (e .bytes); first = entryOf (e .bytes) 0; part = partOf (e .bytes) 0 }
 
--- every row is worked out as it stands
+-- Theorem. Every row is worked out as it stands.
 abbrev pub ExamplesRead : Type 0
 ExamplesRead = map worked examples ≡ examples

@@ -1,4 +1,4 @@
--- Reading the message at the front of some bytes: document 01 'The wire' and rows 8 and 9 of 'What calls refuse'.
+-- R19. Reading the message at the front of some bytes.
 use Prim.Native.Nat.{ℕ}
 use mathlib.Core.List.{List, [], _∷_}
 use mathlib.Core.Bool.{cond}
@@ -13,22 +13,23 @@ use Rattle.fields.specs.Fields.{heartbeatOf}
 use Rattle.numbers.specs.Refusal.{notRefused, fault, short}
 use Rattle.reader.specs.Numbers.{heartbeatNumbers}
 
--- the data of a message of n bytes
+-- R7. The data of a message of n bytes.
 abbrev pub dataOf : List ℕ → ℕ → List ℕ
 dataOf s n = drop headerEnd (take n s)
 
--- what the sound message of n bytes is
+-- R19. What the sound message of n bytes is.
 unfoldable pub messageOf : List ℕ → ℕ → List ℕ
 messageOf s n =
     cond (eqb (pduType s) keepAlive)
     (keepAlive ∷ 1 ∷ heartbeatNumbers (heartbeatOf (dataOf s n)))
     (pduType s ∷ messageCount s ∷ [])
 
--- "8 Fault: reader or append: faults 1 to 6"; "9 Short: reader: bytes end before a deciding byte"
+-- R19. The answer by what the bytes decide: the message, or 8 with the fault, or 9.
 unfoldable pub readBy : Decision → List ℕ → List ℕ
 readBy Undecided s = short ∷ []
 readBy (Faulty f n) s = fault ∷ f ∷ []
 readBy (Sound n) s = notRefused ∷ n ∷ messageOf s n
 
+-- R19, R64. Reading the message at the front of s: 8, 9, or what it is.
 unfoldable pub readOf : List ℕ → List ℕ
 readOf s = readBy (decide s) s

@@ -148,7 +148,7 @@ fn part_in<'a>(s: &'a [u8], n: usize, index: usize) -> &'a [u8]
     &s[..0]
 }
 
-// The parameters of entry index, as a part of s: empty where the entry is refused.
+// R21. The parameters of entry index, as a slice of s; empty where it is refused.
 pub fn entry_part<'a>(s: &'a [u8], index: usize) -> &'a [u8]
     ensures { λ r. ⌜ now r ≡ partOf (now (s .entry)) index ⌝ }
 {
@@ -203,7 +203,7 @@ pub fn numbers_tell()
     ensures { λ r. ⌜ NumbersTell ⌝ }
 {}
 
-// The starred messages of document 01 read as it says.
+// R83. The messages of the examples are read as their table says.
 pub fn examples_read()
     ensures { λ r. ⌜ ExamplesRead ⌝ }
 {}

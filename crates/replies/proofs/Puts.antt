@@ -11,8 +11,8 @@ use Rattle.octets.proofs.Digits.{length-bytes16, length-bytes32}
 use Rattle.heartbeat.specs.Beat.{formOf, valueOf}
 use Rattle.heartbeat.specs.declared.Heartbeat.{Heartbeat}
 use Rattle.heartbeat.specs.declared.Heartbeat.the-variants.{InSeconds, InMilliseconds}
-use Rattle.frame.specs.Limits.{leastResponse, leastNotification, notification, keepAlive}
-use Rattle.layout.specs.Message.{sizeOf, headBytes, message, beatBytes, atFront}
+use Rattle.frame.specs.Limits.{leastResponse, notification, keepAlive}
+use Rattle.layout.specs.Message.{headBytes, beatBytes, atFront}
 use Rattle.layout.proofs.Messages.{length-message, put-whole}
 use Rattle.subscription.specs.declared.Subscription.{Subscription}
 use Rattle.objects.specs.Methods.{muteProperty}

@@ -1,4 +1,4 @@
--- A datagram on the reset mechanism's port: document 02 (ii).
+-- R75 to R77. A datagram on the reset mechanism's port.
 use Prim.Native.Nat.{ℕ}
 use mathlib.Core.Bool.{cond}
 use mathlib.Core.List.{List, []}
@@ -12,11 +12,11 @@ use Rattle.numbers.specs.Refusal.{badRecord, badArea}
 use Rattle.endpoint.specs.Outcome.{Outcome, outcome, refused}
 use Rattle.endpoint.specs.declared.Record.{Record}
 
--- "After the reset the record is a fresh one at the last reading, the area zero and the mechanism disarmed"
+-- R76. A reset: a fresh record at the last reading, and an area of zeros.
 unfoldable pub restarted : Record → Outcome
 restarted r = outcome (resettingNumbers resetting.Done) (freshState (r .device .reading)) (zeros areaBytes) []
 
--- "resets if the mechanism is armed and the key matches; any other changes nothing"; "the datagram call gives 1 and 2 alone"
+-- R64, R77. Datagram: 1, then 2, else a reset or nothing.
 unfoldable pub datagramCall : Record → List ℕ → List ℕ → Outcome
 datagramCall r area datagram =
     cond (recordObeys r)

@@ -1,4 +1,4 @@
--- The chain from the code to document 01's rules: what a script's calls leave is what the rules over whole messages give.
+-- R81, R82. What a script's calls leave is what the rules over whole messages give.
 use Prim.Native.Nat.{ℕ, _^_, _≤_, _<_}
 use mathlib.Core.Path.{_≡_}
 use mathlib.Core.List.{List, [], _∷_, _++_}
@@ -14,11 +14,12 @@ use Rattle.promise.specs.Stream.{GoodState, machine, gives}
 use Rattle.answers.specs.Numbers.{numbersOf}
 use Rattle.script.specs.Script.{stage, callTake, callDatagram, callBy, callIn, behind, callsIn, lastOutput, lastAnswer, scriptOf}
 
--- the first call of a script, lent this output, is c, and more lies behind it
+-- R82. The first call of a script, lent this output, is c, and more lies behind it.
 pub record FirstIs (s output : List ℕ) (c : HostCall) (more : List ℕ) : Type 0 where
   pub call : callIn s output ≡ c
   pub rest : behind s ≡ more
 
+-- Theorem. What the code leaves of a script is what the rules over whole messages give; every call can be written.
 pub record ScriptsRun : Type 0 where
   -- what the code leaves of a script, from a state that keeps the rules: the device of the rules over whole messages, the undecided
   -- bytes, and the last answer and output that the rules give

@@ -1,4 +1,4 @@
--- A script of calls in bytes, run on one record, one area and one output: the run that the stream theorem speaks of, as code.
+-- R82. A script of calls in bytes, run on one record, one area and one output.
 use Prim.Native.Nat.{ℕ, zero, suc, _+_, _-_}
 use mathlib.Core.Bool.{cond}
 use mathlib.Core.List.{List, [], _∷_}
@@ -14,17 +14,18 @@ use Rattle.promise.specs.Stream.{runCalls}
 use Rattle.answers.specs.Numbers.{numbersOf}
 use Rattle.answers.specs.declared.Numbers.{Numbers}
 
--- how a script stands: the record, the area, the output, and the last call's answer
+-- R82. How a script stands: the record, the area, the output, and the last call's answer.
 pub record Stage : Type 0 where
   pub state : Record
   pub area : List ℕ
   pub output : List ℕ
   pub answer : Numbers
 
+-- R82. A stage of these.
 abbrev pub stage : Record → List ℕ → List ℕ → Numbers → Stage
 stage state area output answer = record { state = state; area = area; output = output; answer = answer }
 
--- the output once a call is made, which of deliveries and takings alone is lent it
+-- R82. The output once a call is made, which is lent to deliveries and takings alone.
 unfoldable pub outputAfter : HostCall → Outcome → List ℕ → List ℕ
 outputAfter (deliver n piece x) o output = o .output
 outputAfter (ask opening) o output = output
@@ -33,34 +34,38 @@ outputAfter (ask (ticking reading)) o output = output
 outputAfter (ask (taking x)) o output = o .output
 outputAfter (ask (datagram g)) o output = output
 
--- how the script stands once a call is made
+-- R82. How the script stands once a call is made.
 unfoldable pub stageOf : HostCall → Record → List ℕ → List ℕ → Stage
 stageOf c r area output =
     stage (callOf r area c .state) (callOf r area c .area) (outputAfter c (callOf r area c) output) (numbersOf (callOf r area c .answer))
 
 -- ---- how calls are written: a kind, a connection's number, a number of 32 bits, and the piece of a datagram or a delivery
 
--- the kinds without a piece, and that of a datagram on the reset mechanism's port; any kind above delivers
+-- R82. Kind 0: opening.
 abbrev pub callOpen : ℕ
 callOpen = 0
 
+-- R82. Kind 1: the host's close.
 abbrev pub callClose : ℕ
 callClose = 1
 
+-- R82. Kind 2: a clock reading.
 abbrev pub callTick : ℕ
 callTick = 2
 
+-- R82. Kind 3: a taking, the last kind without a piece.
 abbrev pub callTake : ℕ
 callTake = 3
 
+-- R82. Kind 4: a datagram on the mechanism's port; any kind above delivers.
 abbrev pub callDatagram : ℕ
 callDatagram = 4
 
--- a call with a piece: a datagram, or a delivery to that connection
+-- R82. 4 is a datagram; any other of the kinds with a piece delivers to that connection.
 unfoldable pub sentBy : ℕ → ℕ → List ℕ → List ℕ → HostCall
 sentBy kind n piece output = cond (eqb kind callDatagram) (ask (datagram piece)) (deliver n piece output)
 
--- a call by its kind; any other than the first four sends its piece
+-- R82. 0 opens, 1 closes that connection, 2 is a clock reading, 3 takes; any other sends its piece.
 unfoldable pub callBy : ℕ → ℕ → ℕ → List ℕ → List ℕ → HostCall
 callBy kind n value piece output =
     cond (eqb kind callOpen) (ask opening)
@@ -69,25 +74,25 @@ callBy kind n value piece output =
     (cond (eqb kind callTake) (ask (taking output))
     (sentBy kind n piece output))))
 
--- the bytes before a piece
+-- R82. The bytes of a call without its piece.
 abbrev pub callHead : ℕ
 callHead = 6
 
--- how many bytes the first call of a script has: a piece is as long as its number says, or as what is left
+-- R82. How many bytes the first call has: a piece is as long as its number says, or as what is left.
 unfoldable pub firstSize : List ℕ → ℕ
 firstSize s =
     cond (leb (getD s 0 0) callTake) callHead
     (cond (ltb (length s) (callHead + be32At s 2)) (length s) (callHead + be32At s 2))
 
--- the first call of a script, lent this output
+-- R82. The first call of a script, lent this output.
 unfoldable pub callIn : List ℕ → List ℕ → HostCall
 callIn s output = callBy (getD s 0 0) (getD s 1 0) (be32At s 2) (take (firstSize s - callHead) (drop callHead s)) output
 
--- the script behind its first call
+-- R82. The script behind its first call.
 unfoldable pub behind : List ℕ → List ℕ
 behind s = drop (firstSize s) s
 
--- a script's calls, at most so many, each lent the output as the one before left it; fewer than six bytes are no call
+-- R82. A script's calls, at most so many, each lent the output as the one before left it.
 unfoldable pub callsFrom : ℕ → Record → List ℕ → List ℕ → List ℕ → List HostCall
 callsFrom zero r area s output = []
 callsFrom (suc k) r area s output =
@@ -95,26 +100,27 @@ callsFrom (suc k) r area s output =
     (callIn s output ∷ callsFrom k (callOf r area (callIn s output) .state) (callOf r area (callIn s output) .area) (behind s)
     (outputAfter (callIn s output) (callOf r area (callIn s output)) output))
 
--- all of them: each has a byte at least
+-- R82. All of them: each has a byte at least.
 unfoldable pub callsIn : Record → List ℕ → List ℕ → List ℕ → List HostCall
 callsIn r area s output = callsFrom (length s) r area s output
 
--- the output and the answer that a run leaves
+-- R82. The output that a run leaves.
 unfoldable pub lastOutput : List ℕ → List HostCall → List Outcome → List ℕ
 lastOutput output [] os = output
 lastOutput output (c ∷ cs) [] = output
 lastOutput output (c ∷ cs) (o ∷ os) = lastOutput (outputAfter c o output) cs os
 
+-- R82. The answer that a run leaves.
 unfoldable pub lastAnswer : Numbers → List Outcome → Numbers
 lastAnswer a [] = a
 lastAnswer a (o ∷ os) = lastAnswer (numbersOf (o .answer)) os
 
--- how a run of these calls ends
+-- R82. How a run of these calls ends.
 unfoldable pub endOf : List HostCall → Record → List ℕ → List ℕ → Numbers → Stage
 endOf cs r area output a =
     let t = runCalls r area cs in
     stage (t .0 .0) (t .0 .1) (lastOutput output cs (t .1)) (lastAnswer a (t .1))
 
--- THE SCRIPT: the run of its calls
+-- R82. THE SCRIPT: the run of its calls.
 unfoldable pub scriptOf : Record → List ℕ → List ℕ → List ℕ → Stage
 scriptOf r area s output = endOf (callsIn r area s output) r area output (numbersOf [])

@@ -188,7 +188,7 @@ pub fn run(state: Record, area: &mut [u8], script: &[u8], output: &mut [u8]) -> 
     last
 }
 
-// What a script's calls leave is what document 01's rules give over whole messages.
+// R81, R82. What a script's calls leave is what the rules give over whole messages.
 pub fn scripts_run()
     ensures { λ _. ⌜ ScriptsRun ⌝ }
 {}

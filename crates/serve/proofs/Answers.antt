@@ -6,7 +6,7 @@ use mathlib.Core.List.{List, [], _∷_}
 use native.Mathlib.Omega.{arith}
 use lib.Dec.{eqb}
 use lib.ListN.{length, replicate}
-use lib.Seq.{sets, length-sets}
+use lib.Seq.{length-sets}
 use Rattle.octets.specs.Numbers.{bytes16}
 use Rattle.objects.specs.Methods.{isMute, deviceManager, classMethod, lockableMethod, getMethod}
 use Rattle.objects.specs.Answers.{replyRoom, classOf, identificationOf, replyOf, failedOf, answerWith}

@@ -1,5 +1,4 @@
--- What a sound message keeps, and what sending and telling keep: document 01 'Time and supervision', "After every call of demand 3
--- the record rules hold"; a sound message closes no connection, "A fault closes the connection".
+-- R62. What a sound message keeps, and what sending and telling keep.
 use Prim.Native.Nat.{ℕ}
 use mathlib.Core.Path.{_≡_}
 use mathlib.Core.Bool.{true}
@@ -13,6 +12,7 @@ use Rattle.device.specs.Obeys.{deviceObeys}
 use Rattle.device.specs.declared.Device.{Device}
 use Rattle.serve.specs.Sound.{soundOf}
 
+-- Theorem. A sound message keeps the record rules, and opens and closes no connection.
 pub record SoundKept : Type 0 where
   -- a sound message keeps the record rules
   pub obeying : (d : Device) (n : ℕ) (m : List ℕ) → Octets m → SoundAt m (length m) → liveAt (d .connections) n ≡ true

@@ -280,7 +280,7 @@ unfolding countsOf zeros
 counted-none zero = refl
 counted-none (suc n) = rw (counted-none n) (zeros-append n 1 ∙ ap (λ (k : ℕ). replicate k 0) (add-one n))
 
--- ---- row 2 does not apply
+-- ---- refusal 2 does not apply
 
 part-sound : (x : List ℕ) → settled (decide x) ≡ false → partSound (length x) (partHolding x) ≡ true
 unfolding partSound partHolding

@@ -1,4 +1,4 @@
--- The arguments of 3.1 and 3.2: document 01 'Our objects'.
+-- R40, R44. The arguments of 3.1 and 3.2.
 use Prim.Native.Nat.{ℕ}
 use mathlib.Core.Bool.{Bool, true, false, not, _&&_}
 use mathlib.Core.List.{List}
@@ -7,7 +7,7 @@ use Rattle.octets.specs.Numbers.{be32At}
 use Rattle.objects.specs.Methods.{changeEvent, isMute, isSubscribing}
 use Rattle.subscription.specs.declared.Subscription.{Subscription}
 
--- "emitter and event 8, subscriber object and method 8, context 4, mode 1"; 3.2 ends before the context
+-- R44. The subscription of these arguments, for connection n; 3.2 ends before the context.
 unfoldable pub subscriptionFrom : ℕ → List ℕ → Subscription
 subscriptionFrom n part =
     record {
@@ -21,10 +21,10 @@ subscriptionFrom n part =
       context = be32At part 16;
     }
 
--- a subscription that no device takes: "emitter not a mute, or event not 1.1"
+-- R40. Status 6: no mute as emitter, or another event than 1.1.
 unfoldable pub isStrange : List ℕ → Bool
 isStrange part = not (isMute (be32At part 0) && eqb (be32At part 4) changeEvent)
 
--- "6 emitter not a mute, or event not 1.1"
+-- R40. Status 6: add or remove with a strange emitter.
 unfoldable pub isEmitterBad : ℕ → List ℕ → Bool
 isEmitterBad m part = isSubscribing m && isStrange part

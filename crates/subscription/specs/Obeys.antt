@@ -1,4 +1,4 @@
--- The record rules of the entries: document 01 'What calls refuse', "Record rules".
+-- R61g to R61i. The record rules of the subscription entries.
 use mathlib.Core.Bool.{Bool, not, _&&_, _||_}
 use mathlib.Core.List.{List}
 use lib.Dec.{eqb}
@@ -8,19 +8,20 @@ use Rattle.objects.specs.Methods.{changeEvent, isMute}
 use Rattle.subscription.specs.State.{isTwin}
 use Rattle.subscription.specs.declared.Subscription.{Subscription}
 
--- "a free entry is all zero"
+-- R61. Row g: an entry that is not used, all zero.
 unfoldable pub isFree : Subscription → Bool
 isFree s =
     not (s .used) && not (s .waiting) && eqb (s .connection) 0 && eqb (s .emitter) 0 && eqb (s .event) 0 && eqb (s .object) 0
     && eqb (s .method) 0 && eqb (s .context) 0
 
--- "a used one has an open connection, a mute as emitter and event 1.1"
+-- R61. Row h: a used entry has an open connection, a mute and event 1.1.
 unfoldable pub isSound : List Connection → Subscription → Bool
 isSound cs s = s .used && liveAt cs (s .connection) && isMute (s .emitter) && eqb (s .event) changeEvent
 
+-- R61. Rows g and h: one entry keeps the record rules.
 unfoldable pub entryObeys : List Connection → Subscription → Bool
 entryObeys cs s = isFree s || isSound cs s
 
--- "no twin"
+-- R61. Row i: two entries are not the same subscription.
 unfoldable pub apart : Subscription → Subscription → Bool
 apart s t = not (isTwin s t)

@@ -5,10 +5,10 @@ use Rattle.objects.specs.Methods.{changeEvent, isMute}
 use Rattle.subscription.specs.State.{free}
 use Rattle.subscription.specs.declared.Subscription.{Subscription}
 
--- an entry that is used, where its connection is open or not
+-- R61. Row h: a used entry keeps its rule, by whether its connection is open.
 abbrev pub soundBy : Bool → Subscription → Bool
 soundBy live s = s .used && live && isMute (s .emitter) && eqb (s .event) changeEvent
 
--- an entry swept, where its connection is open or not
+-- R60. An entry swept, by whether its connection is open.
 abbrev pub sweptBy : Bool → Subscription → Subscription
 sweptBy live s = cond (s .used && not live) free s

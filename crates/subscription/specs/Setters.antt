@@ -1,9 +1,9 @@
--- An entry with one part changed: no rule is here.
+-- A subscription entry with one part changed: no rule is here.
 use Prim.Native.Nat.{ℕ}
 use mathlib.Core.Bool.{Bool}
 use Rattle.subscription.specs.declared.Subscription.{Subscription}
 
--- waiting or not
+-- An entry, waiting or not.
 abbrev pub withWaiting : Subscription → Bool → Subscription
 withWaiting s waiting =
     record {
@@ -17,7 +17,7 @@ withWaiting s waiting =
       context = s .context;
     }
 
--- another context
+-- A subscription with another context.
 abbrev pub withContext : Subscription → ℕ → Subscription
 withContext s context =
     record {

@@ -1,4 +1,4 @@
--- Taking: document 01 'Our objects', "Take writes one message and names its connection".
+-- R49, R50. Taking.
 use Prim.Native.Nat.{ℕ}
 use mathlib.Core.Bool.{Bool, cond}
 use mathlib.Core.List.{List}
@@ -16,43 +16,46 @@ use Rattle.device.specs.Run.{muteAt}
 use Rattle.device.specs.declared.Device.{Device}
 use Rattle.replies.specs.Bytes.{notificationBytes, keepAliveBytes}
 
--- all that it comes to: the answer in its numbers, the device and the output
+-- R50. All that it comes to: the answer's numbers, the device and the output.
 pub record Dispatch : Type 0 where
   pub answer : List ℕ
   pub device : Device
   pub output : List ℕ
 
+-- R50. A dispatch of these.
 abbrev pub dispatch : List ℕ → Device → List ℕ → Dispatch
 dispatch answer d output = record { answer = answer; device = d; output = output }
 
--- the entry at a place, and the device once its notification is sent: "Taking sends the value of that moment, once"
+-- R3. The subscription entry at a place.
 abbrev pub subscriptionAt : Device → ℕ → Subscription
 subscriptionAt d i = getD (d .subscriptions) i free
 
+-- R50. The device once an entry's notification is taken.
 unfoldable pub notifiedOf : Device → ℕ → Device
 notifiedOf d i = sentAt (toldAt d i) (subscriptionAt d i .connection)
 
--- the notification of the entry at place i, with "the value of that moment"
+-- R48. The notification of the entry at place i, with the value of now.
 abbrev pub notificationAt : Device → ℕ → List ℕ
 notificationAt d i = notificationBytes (subscriptionAt d i) (muteAt d (subscriptionAt d i .emitter))
 
+-- R49. The notification of the entry at place i, with the value of now.
 unfoldable pub notifying : Device → List ℕ → ℕ → Dispatch
 notifying d out i =
     let m = notificationAt d i in
     dispatch (takingNumbers (Notification (subscriptionAt d i .connection) (length m))) (notifiedOf d i) (atFront m out)
 
--- "a keep-alive, in its form and with its H", for connection n
+-- R49. The keep-alive of connection n.
 unfoldable pub reminding : Device → List ℕ → ℕ → Dispatch
 reminding d out n =
     let m = keepAliveBytes (heartbeatKept (getD (d .connections) n closed)) in
     dispatch (takingNumbers (KeepAlive n (length m))) (sentAt d n) (atFront m out)
 
--- "the lowest waiting entry, else a keep-alive, in its form and with its H, for the lowest connection due, else nothing":
--- whether an entry waits and whether a connection is due, and which
+-- R49. The entry at i if there is one, else connection n if there is one, else nothing.
 unfoldable pub takenBy : Bool → Bool → Device → List ℕ → ℕ → ℕ → Dispatch
 takenBy waits due d out i n =
     cond waits (notifying d out i) (cond due (reminding d out n) (dispatch (takingNumbers Nothing) d out))
 
+-- R49. Taking, of the lowest entry that waits and the lowest connection that is due.
 abbrev pub dispatched : Device → List ℕ → Dispatch
 dispatched d out =
     let i = lowestWaiting (d .subscriptions) in

@@ -1,4 +1,4 @@
--- The round trip: what the writer writes is read as it was given, and what was read is written again as it was.
+-- What is written is read as it was given, and what was read is written again as it was: R19 to R27 together.
 use Prim.Native.Nat.{ℕ, zero, suc, _+_, _≤_, _<_}
 use mathlib.Core.Path.{_≡_}
 use mathlib.Core.List.{List, [], _∷_, _++_}
@@ -20,23 +20,23 @@ use Rattle.writer.specs.Numbers.{writtenNumbers, Writing, writing}
 use Rattle.layout.specs.Message.{message, atFront}
 use Rattle.writer.specs.Write.{leastRoom, written, startOf, appendOf, keepAliveOf}
 
--- a start and appends into buf, none refused, with the entries es: the last answers n, and leaves the buffer after
+-- R25, R26. A start and appends into buf, none refused, with the entries es: the last answers n and leaves that buffer.
 pub data Made (buf : List ℕ) (kind : ℕ) : List (List ℕ) → ℕ → List ℕ → Type 0 where
   started : (e : List ℕ) (n : ℕ) → startOf buf kind e .answer ≡ notRefused ∷ n ∷ []
       → Made buf kind (e ∷ []) n (startOf buf kind e .buffer)
   appended : (es : List (List ℕ)) (m : ℕ) (before e : List ℕ) (n : ℕ) → Made buf kind es m before
       → appendOf before kind e .answer ≡ notRefused ∷ n ∷ [] → Made buf kind (es ++ (e ∷ [])) n (appendOf before kind e .buffer)
 
--- count entries of that type, one behind another
+-- R13. So many entries of that type, each as its bytes.
 unfoldable pub entriesOf : ℕ → ℕ → List ℕ → List (List ℕ)
 entriesOf zero kind t = []
 entriesOf (suc n) kind t = entryBytes 0 kind t ∷ entriesOf n kind (drop (entrySize kind t) t)
 
--- the entries of the sound message of n bytes at the front of s
+-- R13. The entries of the sound message of n bytes at the front of s.
 abbrev pub entriesIn : List ℕ → ℕ → List (List ℕ)
 entriesIn s n = entriesOf (messageCount s) (pduType s) (dataOf s n)
 
--- the message at the front of s is read as one of n bytes with that type, count, entries and parts
+-- R19, R20, R21. The message at the front of s is read as one of n bytes with that type, count, entries and parts.
 pub record ReadsAs (s : List ℕ) (n kind : ℕ) (es : List (List ℕ)) : Type 0 where
   pub message : readOf s ≡ notRefused ∷ n ∷ kind ∷ length es ∷ []
   pub bytes : (i : ℕ) → i < length es → entryAt s n i ≡ getD es i []
@@ -44,7 +44,7 @@ pub record ReadsAs (s : List ℕ) (n kind : ℕ) (es : List (List ℕ)) : Type 0
   pub part : (i : ℕ) → i < length es → partOf s i ≡ parametersOf kind (getD es i [])
   pub none : (i : ℕ) → length es ≤ i → entryOf s i ≡ noEntry ∷ []
 
--- what start, append (any number of times) and keep-alive write is read as it was given
+-- Theorem. What start, append (any number of times) and keep-alive write is read as it was given.
 pub record ReadAfterWrite : Type 0 where
   pub start : (buf : List ℕ) (kind : ℕ) (e : List ℕ) (n : ℕ)
       → startOf buf kind e .answer ≡ notRefused ∷ n ∷ [] → ReadsAs (startOf buf kind e .buffer) n kind (e ∷ [])
@@ -66,7 +66,7 @@ pub record ReadAfterWrite : Type 0 where
       × (readOf (keepAliveOf buf millisecondsForm greatestMilliseconds .buffer)
       ≡ notRefused ∷ 14 ∷ keepAlive ∷ 1 ∷ millisecondsForm ∷ greatestMilliseconds ∷ [])
 
--- what was read is written again as the same bytes, into any buffer that has room
+-- Theorem. What was read is written again as the same bytes, into any buffer that has room.
 pub record WriteAfterRead : Type 0 where
   pub reads : (s : List ℕ) (n : ℕ) → decide s ≡ Sound n → pduType s ≤ response → ReadsAs s n (pduType s) (entriesIn s n)
   pub entries : (s buf : List ℕ) (n : ℕ) → Octets s → leastRoom ≤ length buf → decide s ≡ Sound n → pduType s ≤ response
@@ -75,7 +75,7 @@ pub record WriteAfterRead : Type 0 where
       → readOf s ≡ notRefused ∷ n ∷ keepAlive ∷ 1 ∷ form ∷ value ∷ []
       → keepAliveOf buf form value ≡ written (take n s) buf
 
--- the numbers of an answer tell it from every other, so that two results which a promise allows are equal
+-- Theorem. Two results that a promise of the writer allows are equal; append refuses by 4 only for a short buffer.
 pub record OneResult : Type 0 where
   pub numbers : (a b : Written) → writtenNumbers a ≡ writtenNumbers b → a ≡ b
   pub results : (o : Writing) (a b : Written) (s t : List ℕ) → writing a s ≡ o → writing b t ≡ o → (a ≡ b) × (s ≡ t)

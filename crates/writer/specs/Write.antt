@@ -1,4 +1,4 @@
--- The writer's three calls: document 01 'What calls refuse', the sentences on the writer.
+-- R24 to R27. The writer's three calls.
 use Prim.Native.Nat.{ℕ, _+_}
 use mathlib.Core.List.{List, [], _∷_, _++_}
 use mathlib.Core.Bool.{Bool, cond, _&&_}
@@ -16,51 +16,51 @@ use Rattle.reader.specs.Read.{dataOf}
 use Rattle.writer.specs.Numbers.{Writing}
 use Rattle.layout.specs.Message.{sizeOf, message, atFront, beatBytes}
 
--- "output under .. 2,049 (writer)"
+-- R63. The least buffer of the writer: the longest message.
 abbrev pub leastRoom : ℕ
 leastRoom = longestMessage
 
--- "On refusal .. all buffers stay as they were; the answer .. is the number alone, with a fault for 8"
+-- R65. A refusal: its number, and the buffer as it was.
 unfoldable pub unwritten : ℕ → List ℕ → Writing
 unwritten number buf = record { answer = number ∷ []; buffer = buf }
 
--- "its answer is the message's length"
+-- R24. The message's length, and the message at the buffer's front.
 unfoldable pub written : List ℕ → List ℕ → Writing
 written m buf = record { answer = notRefused ∷ length m ∷ []; buffer = atFront m buf }
 
--- "message would pass pduSize 2,048"
+-- R63. Refusal 10 where pduSize would be above 2,048; else the message is written.
 unfoldable pub offered : ℕ → ℕ → List ℕ → List ℕ → Writing
 offered kind count body buf =
     cond (ltb greatestSize (sizeOf body)) (unwritten tooLong buf) (written (message kind count body) buf)
 
--- "starts a message with one entry"; "For the writer 11 comes before 10"
+-- R25, R64. Start: 4, then 11, then 10, else a message of one entry.
 unfoldable pub startOf : List ℕ → ℕ → List ℕ → Writing
 startOf buf kind e =
     cond (ltb (length buf) leastRoom) (unwritten noRoom buf)
     (cond (wellFormed kind e) (offered kind 1 e buf) (unwritten badEntry buf))
 
--- "entry not well formed, or of another type than the message appended to, or append to a keep-alive"
+-- R26. Append to a sound message of n bytes: 11, then 10, else the entry behind its data.
 unfoldable pub appendSound : ℕ → List ℕ → ℕ → List ℕ → Writing
 appendSound n buf kind e =
     cond (eqb kind (pduType buf) && wellFormed kind e)
     (offered kind (messageCount buf + 1) (dataOf buf n ++ e) buf)
     (unwritten badEntry buf)
 
--- "reader or append: faults 1 to 6"; undecided bytes are at most 2,048, and such a buffer has no room
+-- R26. Append by what the buffer's front decides; 2,049 bytes always decide, so the first case never comes.
 unfoldable pub appendBy : Decision → List ℕ → ℕ → List ℕ → Writing
 appendBy Undecided buf kind e = unwritten noRoom buf
 appendBy (Faulty f n) buf kind e = record { answer = fault ∷ f ∷ []; buffer = buf }
 appendBy (Sound n) buf kind e = appendSound n buf kind e
 
--- "appends one to a sound message held at a buffer's front"
+-- R26, R64. Append: 4, then 8, then 11, then 10, else the longer message.
 unfoldable pub appendOf : List ℕ → ℕ → List ℕ → Writing
 appendOf buf kind e = cond (ltb (length buf) leastRoom) (unwritten noRoom buf) (appendBy (decide buf) buf kind e)
 
--- the forms are seconds and milliseconds, and 2 bytes of seconds hold no more than 65,535
+-- R27. A form that is known, and in seconds a value that 2 bytes hold.
 unfoldable pub beatFits : ℕ → ℕ → Bool
 beatFits form value = cond (eqb form secondsForm) (leb value greatestSeconds) (eqb form millisecondsForm)
 
--- "writes a keep-alive from a form and value"
+-- R27, R64. Keep-alive: 4, then 11, else the message.
 unfoldable pub keepAliveOf : List ℕ → ℕ → ℕ → Writing
 keepAliveOf buf form value =
     cond (ltb (length buf) leastRoom) (unwritten noRoom buf)

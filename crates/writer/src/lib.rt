@@ -37,7 +37,7 @@ fn put_message(buf: &mut [u8], kind: u8, e: &[u8])
     octets::copy(e, buf, frame::HEADER_END);
 }
 
-// Starts a message with one entry.
+// R25. A message of one entry.
 pub fn start(buf: &mut [u8], kind: u8, e: &[u8]) -> Written
     ensures { λ r. ⌜ writing r (now (buf .exit)) ≡ startOf (now (buf .entry)) kind (now (e .entry)) ⌝ }
 {
@@ -98,7 +98,7 @@ pub fn append(buf: &mut [u8], kind: u8, e: &[u8]) -> Written
     }
 }
 
-// Writes a keep-alive from a form and a value in that form's unit.
+// R27. A keep-alive of that form, with a value in its unit.
 pub fn keep_alive(buf: &mut [u8], form: u8, value: u32) -> Written
     ensures { λ r. ⌜ writing r (now (buf .exit)) ≡ keepAliveOf (now (buf .entry)) form value ⌝ }
 {

@@ -3,13 +3,6 @@ use Rattle.script.proofs.Stages.{is-open, is-close, is-tick, is-take, i
 use borrow.Author.Needs.{needs}
 use Rattle.script.proofs.call.Statement.{statement}
 use Rattle.script.proofs.call.Tie as tie
-use Rattle.script.proofs.call.Reads as reads
-use Rattle.script.proofs.call.Lts as lts
-use Rattle.script.proofs.close.Reads as close-reads
-use Rattle.script.proofs.open.Reads as open-reads
-use Rattle.script.proofs.send.Reads as send-reads
-use Rattle.script.proofs.take.Reads as take-reads
-use Rattle.script.proofs.tick.Reads as tick-reads
 
 open-requires : tie.Need-open-requires
 open-requires c κs = search needs

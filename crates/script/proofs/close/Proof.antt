@@ -2,10 +2,6 @@ use Rattle.script.proofs.Stages.{close-stage}
 use borrow.Author.Needs.{needs}
 use Rattle.script.proofs.close.Statement.{statement}
 use Rattle.script.proofs.close.Tie as tie
-use Rattle.script.proofs.close.Reads as reads
-use Rattle.script.proofs.close.Lts as lts
-use Rattle.endpoint.proofs.Record.close.Reads as close-reads
-use Rattle.answers.proofs.Closing.numbers.Reads as numbers-reads
 
 close-requires : tie.Need-close-requires
 close-requires c κs = search needs

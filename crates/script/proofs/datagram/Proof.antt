@@ -2,10 +2,6 @@ use Rattle.script.proofs.Stages.{datagram-stage}
 use borrow.Author.Needs.{needs}
 use Rattle.script.proofs.datagram.Statement.{statement}
 use Rattle.script.proofs.datagram.Tie as tie
-use Rattle.script.proofs.datagram.Reads as reads
-use Rattle.script.proofs.datagram.Lts as lts
-use Rattle.reset.proofs.datagram.Reads as datagram-reads
-use Rattle.answers.proofs.Resetting.numbers.Reads as numbers-reads
 
 datagram-requires : tie.Need-datagram-requires
 datagram-requires c κs = search needs

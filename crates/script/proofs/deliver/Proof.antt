@@ -2,10 +2,6 @@ use Rattle.script.proofs.Stages.{deliver-stage}
 use borrow.Author.Needs.{needs}
 use Rattle.script.proofs.deliver.Statement.{statement}
 use Rattle.script.proofs.deliver.Tie as tie
-use Rattle.script.proofs.deliver.Reads as reads
-use Rattle.script.proofs.deliver.Lts as lts
-use Rattle.endpoint.proofs.Record.deliver.Reads as deliver-reads
-use Rattle.answers.proofs.Delivery.numbers.Reads as numbers-reads
 
 deliver-requires : tie.Need-deliver-requires
 deliver-requires c κs = search needs

@@ -5,11 +5,6 @@ use Rattle.script.proofs.Stages.{first-stage}
 use borrow.Author.Needs.{needs}
 use Rattle.script.proofs.first.Statement.{statement}
 use Rattle.script.proofs.first.Tie as tie
-use Rattle.script.proofs.first.Reads as reads
-use Rattle.script.proofs.first.Lts as lts
-use Rattle.octets.proofs.be32.Reads as be32-reads
-use Rattle.script.proofs.call.Reads as call-reads
-use Rattle.script.proofs.first_size.Reads as first-size-reads
 
 first-size-requires : tie.Need-first-size-requires
 first-size-requires c κs = search needs

@@ -3,9 +3,6 @@ use Rattle.script.proofs.Stages.{head-alone, all-left, as-asked}
 use borrow.Author.Needs.{needs}
 use Rattle.script.proofs.first_size.Statement.{statement}
 use Rattle.script.proofs.first_size.Tie as tie
-use Rattle.script.proofs.first_size.Reads as reads
-use Rattle.script.proofs.first_size.Lts as lts
-use Rattle.octets.proofs.be32.Reads as be32-reads
 
 shared-slice-read-if1 : tie.Need-shared-slice-read-if1
 shared-slice-read-if1 c = search needs

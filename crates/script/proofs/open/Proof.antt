@@ -2,10 +2,6 @@ use Rattle.script.proofs.Stages.{open-stage}
 use borrow.Author.Needs.{needs}
 use Rattle.script.proofs.open.Statement.{statement}
 use Rattle.script.proofs.open.Tie as tie
-use Rattle.script.proofs.open.Reads as reads
-use Rattle.script.proofs.open.Lts as lts
-use Rattle.endpoint.proofs.Record.open.Reads as open-reads
-use Rattle.answers.proofs.Opening.numbers.Reads as numbers-reads
 
 open-requires : tie.Need-open-requires
 open-requires c κs = search needs

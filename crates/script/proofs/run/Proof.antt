@@ -8,10 +8,6 @@ use Rattle.script.proofs.Stages.{Playing, playing-none, playing-more, p
 use borrow.Author.Needs.{needs}
 use Rattle.script.proofs.run.Statement.{statement}
 use Rattle.script.proofs.run.Tie as tie
-use Rattle.script.proofs.run.Reads as reads
-use Rattle.script.proofs.run.Lts as lts
-use Rattle.script.proofs.first.Reads as first-reads
-use Rattle.script.proofs.first_size.Reads as first-size-reads
 
 abbrev Inv-loop : tie.InvT-loop
 Inv-loop area₀ script output₀ last₀ t₀ area output last t = Playing (last₀ .state) area₀ script output₀ area output (last .state) (last .answer) t

@@ -3,10 +3,6 @@ use Rattle.script.proofs.Stages.{is-datagram, is-deliver}
 use borrow.Author.Needs.{needs}
 use Rattle.script.proofs.send.Statement.{statement}
 use Rattle.script.proofs.send.Tie as tie
-use Rattle.script.proofs.send.Reads as reads
-use Rattle.script.proofs.send.Lts as lts
-use Rattle.script.proofs.datagram.Reads as datagram-reads
-use Rattle.script.proofs.deliver.Reads as deliver-reads
 
 datagram-requires : tie.Need-datagram-requires
 datagram-requires c κs = search needs

@@ -2,10 +2,6 @@ use Rattle.script.proofs.Stages.{take-stage}
 use borrow.Author.Needs.{needs}
 use Rattle.script.proofs.take.Statement.{statement}
 use Rattle.script.proofs.take.Tie as tie
-use Rattle.script.proofs.take.Reads as reads
-use Rattle.script.proofs.take.Lts as lts
-use Rattle.endpoint.proofs.Record.take.Reads as take-reads
-use Rattle.answers.proofs.Taking.numbers.Reads as numbers-reads
 
 take-requires : tie.Need-take-requires
 take-requires c κs = search needs

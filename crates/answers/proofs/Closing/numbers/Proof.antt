@@ -2,10 +2,6 @@ use Rattle.answers.specs.Numbers.{numbersOf}
 use borrow.Author.Needs.{needs}
 use Rattle.answers.proofs.Closing.numbers.Statement.{statement}
 use Rattle.answers.proofs.Closing.numbers.Tie as tie
-use Rattle.answers.proofs.Closing.numbers.Reads as reads
-use Rattle.answers.proofs.Closing.numbers.Lts as lts
-use Rattle.answers.proofs.refusal.Reads as refusal-reads
-use Rattle.answers.proofs.told.Reads as told-reads
 
 enum-told : tie.Need-enum-told
 enum-told c = search needs

@@ -4,10 +4,6 @@ use Rattle.answers.proofs.Fits.{fault-fits}
 use borrow.Author.Needs.{needs}
 use Rattle.answers.proofs.Delivery.numbers.Statement.{statement}
 use Rattle.answers.proofs.Delivery.numbers.Tie as tie
-use Rattle.answers.proofs.Delivery.numbers.Reads as reads
-use Rattle.answers.proofs.Delivery.numbers.Lts as lts
-use Rattle.answers.proofs.refusal.Reads as refusal-reads
-use Rattle.answers.proofs.told.Reads as told-reads
 
 enum-known-self : tie.Need-enum-known-self
 enum-known-self c = search needs

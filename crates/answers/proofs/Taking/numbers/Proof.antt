@@ -4,10 +4,6 @@ use Rattle.answers.proofs.Fits.{second-fits}
 use borrow.Author.Needs.{needs}
 use Rattle.answers.proofs.Taking.numbers.Statement.{statement}
 use Rattle.answers.proofs.Taking.numbers.Tie as tie
-use Rattle.answers.proofs.Taking.numbers.Reads as reads
-use Rattle.answers.proofs.Taking.numbers.Lts as lts
-use Rattle.answers.proofs.refusal.Reads as refusal-reads
-use Rattle.answers.proofs.told.Reads as told-reads
 
 enum-told : tie.Need-enum-told
 enum-told c = search needs
