@@ -13,7 +13,8 @@ use Rattle.connection.specs.State.{connectionCount, liveAt, lowestDue}
 use Rattle.subscription.specs.State.{entryCount, lowestWaiting}
 use Rattle.objects.specs.Methods.{lockMethod, unlockMethod, setMethod, addMethod, removeMethod, resetKeyMethod, placeOf}
 use Rattle.holders.specs.Holders.{ownerOf}
-use Rattle.device.specs.State.{withHolders, sentAt}
+use Rattle.device.specs.Setters.{withHolders}
+use Rattle.device.specs.State.{sentAt}
 use Rattle.device.specs.Run.{muteAt, statusOf, mutedOf, doneOf, ranBy, runOf}
 use Rattle.device.specs.declared.Ran.{Ran}
 use Rattle.device.specs.declared.Device.{Device}
