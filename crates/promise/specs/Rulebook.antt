@@ -1,4 +1,4 @@
--- R81. The rules over whole messages, datagrams among them, and the endpoint's calls as one function.
+-- R81. The rules over whole messages, datagrams among them, and whom an answer closes.
 use Prim.Native.Nat.{ℕ, zero, suc, _/_, _%_}
 use mathlib.Core.Path.{_≡_}
 use mathlib.Core.Bool.{Bool, cond, true, false}
