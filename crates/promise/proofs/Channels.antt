@@ -52,8 +52,8 @@ use Rattle.taking.specs.Dispatch.{notifiedOf}
 use Rattle.endpoint.specs.declared.Record.{Record}
 use Rattle.promise.specs.Rulebook as ruling
 use Rattle.promise.specs.Rulebook.{opening, closing, ticking, taking, datagram, Asked, Given, messageBy, openBy, closeBy, resetBy, rule}
-use Rattle.promise.specs.Calls.{HostCall}
-use Rattle.promise.specs.Stream.{runCalls, wholeCalls}
+use Rattle.promise.specs.Calls.{HostCall, runCalls}
+use Rattle.promise.specs.Stream.{wholeCalls}
 use Rattle.promise.specs.Reset.{asksWith, asksOver, asksIn, asksFor, nobodyAsks}
 use Rattle.promise.proofs.OpenConnections.{getD-alike}
 use Rattle.promise.proofs.Ways.{take-ways, done-ways, run-ways}

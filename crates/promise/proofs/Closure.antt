@@ -49,14 +49,14 @@ use Rattle.endpoint.specs.declared.Record.{Record}
 use Rattle.endpoint.proofs.States.{live-low}
 use Rattle.taking.proofs.Takes.{index-meets}
 use Rattle.promise.specs.Rulebook.{open?, bitOf}
-use Rattle.promise.specs.Kept.{Kept}
+use Rattle.promise.specs.Kept.{heldIn, Kept}
 use Rattle.promise.specs.Technician.{stepAt, passes}
 use Rattle.promise.specs.Closure.{areaPart, Left, Unmoved, Closed, New, ClosureLeavesNothing}
 use Rattle.promise.proofs.OpenConnections.{GoodAt, live-still}
 use Rattle.promise.proofs.Deliveries.{small}
 use Rattle.promise.proofs.Calls.{ticked-counts, ticked-area}
 use Rattle.promise.proofs.Masks.{mask-bit, mask-beyond}
-use Rattle.promise.proofs.HeldBytes.{heldIn, kept-good, kept-counts, kept-area}
+use Rattle.promise.proofs.HeldBytes.{kept-good, kept-counts, kept-area}
 use Rattle.promise.proofs.Ticks.{maskAt, Ticks, passed, ticked-at, never-idle}
 
 -- answers of which a number differs

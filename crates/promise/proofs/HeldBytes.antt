@@ -31,7 +31,7 @@ use Rattle.area.specs.Scaffold.{Lying}
 use Rattle.endpoint.specs.declared.Record.{Record}
 use Rattle.area.proofs.Lies.{area-long, part-at, lies}
 use Rattle.area.proofs.Gathers.{length-undecided}
-use Rattle.promise.specs.Kept.{Kept}
+use Rattle.promise.specs.Kept.{heldIn, Kept}
 use Rattle.promise.proofs.OpenConnections.{GoodAt, lives-get, length-lives}
 
 -- parts, one behind another
@@ -72,10 +72,6 @@ count-none : (live : Bool) (k : ℕ) → countObeys live k ≡ true → live ≡
 unfolding countObeys
 count-none true k e l = absurd (true≢false l)
 count-none false k e l = eqb-true k 0 e
-
--- the bytes held
-pub heldIn : Record → List ℕ → Held
-heldIn r area = λ n. cond (ltb n 8) (undecidedOf area n (heldAt r n)) []
 
 module _ (r : Record) (area : List ℕ) (w : Kept r area) where
   long : length area ≡ areaBytes

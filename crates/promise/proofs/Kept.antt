@@ -24,12 +24,12 @@ use Rattle.endpoint.specs.Calls.{clearedArea}
 use Rattle.endpoint.specs.declared.Record.{Record}
 use Rattle.promise.specs.Rulebook.{Given, rule, open?, admit, shut, Fine}
 use Rattle.promise.specs.Calls.{HostCall, callOf, recordWith, areaWith, outcomeOf}
-use Rattle.promise.specs.Kept.{Kept, CallsKeep}
+use Rattle.promise.specs.Kept.{heldIn, Kept, CallsKeep}
 use Rattle.promise.proofs.OpenConnections.{GoodAt, record-obeys}
 use Rattle.promise.proofs.Deliveries.{area-sound}
 use Rattle.promise.proofs.Calls.{told}
 use Rattle.promise.proofs.DeviceLaws.{fine-fresh, device-laws}
-use Rattle.promise.proofs.HeldBytes.{heldIn, kept-good, kept-counts, kept-area}
+use Rattle.promise.proofs.HeldBytes.{kept-good, kept-counts, kept-area}
 
 -- ---- bytes in the area
 

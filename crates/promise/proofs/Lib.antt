@@ -7,6 +7,7 @@ pub mod Calls
 pub mod HeldBytes
 pub mod Kept
 pub mod Stream
+pub mod Whole
 pub mod Ticks
 pub mod Untouched
 pub mod Technician

@@ -22,8 +22,8 @@ use Rattle.endpoint.specs.Outcome.{Outcome, outcome, refused}
 use Rattle.reset.specs.Datagram.{restarted, datagramCall}
 use Rattle.endpoint.specs.declared.Record.{Record}
 use Rattle.promise.specs.Rulebook.{datagram, rule, open?, admit, resetBy}
-use Rattle.promise.specs.Calls.{HostCall, callOf}
-use Rattle.promise.specs.Stream.{runCalls, wholeCalls}
+use Rattle.promise.specs.Calls.{HostCall, callOf, runCalls}
+use Rattle.promise.specs.Stream.{wholeCalls}
 use Rattle.promise.specs.Reset.{Matches, Resets, ResetByKey, nobodyAsks, RackFreeAgain}
 use Rattle.promise.proofs.OpenConnections.{fresh-shut}
 use native.Mathlib.Omega.{arith}

@@ -54,8 +54,8 @@ use Rattle.reset.specs.Datagram.{datagramCall}
 use Rattle.endpoint.specs.declared.Record.{Record}
 use Rattle.promise.specs.Rulebook as ruling
 use Rattle.promise.specs.Rulebook.{opening, closing, ticking, taking, datagram, Asked, Given, messageBy, openBy, closeBy, resetBy, rule}
-use Rattle.promise.specs.Calls.{HostCall, callOf, recordWith, areaWith}
-use Rattle.promise.specs.Stream.{runCalls, GoodState, wholeCalls}
+use Rattle.promise.specs.Calls.{HostCall, callOf, runCalls, recordWith, areaWith}
+use Rattle.promise.specs.Stream.{GoodState, wholeCalls}
 use Rattle.promise.specs.ResetKey.{isArming, keyedBy, keyedWith, keyedOver, keyedIn, keyedMessage, latest, latestOver, LatestKeyCounts, AlikeButKey, Seen, seen, isNoReset, noReset, KeyStaysInside}
 use Rattle.promise.proofs.Mechanism.{arming, close-frame, open-frame, tick-frame, run-frame, sound-frame}
 use Rattle.promise.proofs.Ways.{take-ways}

@@ -24,13 +24,13 @@ use Rattle.endpoint.specs.Outcome.{Outcome}
 use Rattle.replies.specs.Bytes.{leastOutput}
 use Rattle.endpoint.specs.declared.Record.{Record}
 use Rattle.promise.specs.Rulebook.{rule, open?, admit, shut, Fine}
-use Rattle.promise.specs.Calls.{HostCall, callOf, recordWith, areaWith}
-use Rattle.promise.specs.Kept.{Kept}
-use Rattle.promise.specs.Stream.{runCalls, gives, machine, DeviceWithBytes, StreamTheorem, CuttingDoesNotMatter, NotTo, MixingDoesNotMatter}
+use Rattle.promise.specs.Calls.{HostCall, callOf, runCalls, recordWith, areaWith}
+use Rattle.promise.specs.Kept.{heldIn, Kept}
+use Rattle.promise.specs.Stream.{gives, machine, DeviceWithBytes, StreamTheorem, CuttingDoesNotMatter, NotTo, MixingDoesNotMatter}
 use Rattle.promise.proofs.OpenConnections.{GoodAt}
 use Rattle.promise.proofs.Calls.{told}
 use Rattle.promise.proofs.DeviceLaws.{device-laws}
-use Rattle.promise.proofs.HeldBytes.{heldIn, kept-good, kept-counts, kept-area}
+use Rattle.promise.proofs.HeldBytes.{kept-good, kept-counts, kept-area}
 use Rattle.promise.proofs.Kept.{next, call-state, call-area, whole-state, fresh-good, fresh-state, fresh-area}
 
 -- ---- the run

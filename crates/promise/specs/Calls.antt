@@ -30,6 +30,14 @@ callOf r area (ask (ticking reading)) = tickCall r area reading
 callOf r area (ask (taking out)) = outcome (takeCall r out .answer) (takeCall r out .state) area (takeCall r out .output)
 callOf r area (ask (datagram g)) = datagramCall r area g
 
+-- R81. A list of calls, each state passed on: the last record and area, and what each call gave.
+unfoldable pub runCalls : Record → List ℕ → List HostCall → (Record × List ℕ) × List Outcome
+runCalls r area [] = ((r, area), [])
+runCalls r area (c ∷ cs) =
+    let o = callOf r area c in
+    let t = runCalls (o .state) (o .area) cs in
+    (t .0, o ∷ t .1)
+
 -- R66. The numbers of a delivery that decided: 0, the kind, the bytes taken, the value.
 unfoldable pub withTaken : ℕ → List ℕ → List ℕ
 withTaken k answer = set answer 2 k

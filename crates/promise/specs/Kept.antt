@@ -1,18 +1,25 @@
 -- R62. What every call keeps of record and area.
 use Prim.Native.Nat.{ℕ}
 use mathlib.Core.Path.{_≡_}
-use mathlib.Core.Bool.{true}
-use mathlib.Core.List.{List}
+use mathlib.Core.Bool.{cond, true}
+use mathlib.Core.List.{List, []}
+use lib.Dec.{ltb}
 use lib.ListN.{length}
 use Rattle.octets.specs.Numbers.{Octets}
 use Rattle.octets.specs.Zeros.{zeros}
-use Rattle.area.specs.Area.{areaBytes, areaSound}
+use Rattle.area.specs.Area.{areaBytes, areaSound, undecidedOf}
 use Rattle.connection.specs.State.{connectionCount}
+use Rattle.stream.specs.Machine.{Held}
 use Rattle.stream.specs.Promise.{Bytes}
 use Rattle.endpoint.specs.State.{freshState, recordObeys}
 use Rattle.endpoint.specs.Calls.{clearedArea}
+use Rattle.endpoint.specs.Deliver.{heldAt}
 use Rattle.endpoint.specs.declared.Record.{Record}
 use Rattle.promise.specs.Calls.{HostCall, callOf}
+
+-- R3, R4. The undecided bytes of each connection, as the record counts them and the area holds them.
+unfoldable pub heldIn : Record → List ℕ → Held
+heldIn r area = λ n. cond (ltb n connectionCount) (undecidedOf area n (heldAt r n)) []
 
 -- R62. A record and an area that refusals 1 and 2 let pass.
 pub record Accepted (r : Record) (area : List ℕ) : Type 0 where

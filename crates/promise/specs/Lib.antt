@@ -2,6 +2,7 @@ pub mod Rulebook
 pub mod Calls
 pub mod Kept
 pub mod Stream
+pub mod Whole
 pub mod Examples
 pub mod Technician
 pub mod Closure

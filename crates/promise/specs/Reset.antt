@@ -34,9 +34,9 @@ use Rattle.endpoint.specs.Outcome.{outcome, refused}
 use Rattle.reset.specs.Datagram.{restarted, datagramCall}
 use Rattle.endpoint.specs.declared.Record.{Record}
 use Rattle.promise.specs.Rulebook.{datagram, Asked, rule, open?, admit}
-use Rattle.promise.specs.Calls.{HostCall}
+use Rattle.promise.specs.Calls.{HostCall, runCalls}
 use Rattle.promise.specs.Kept.{Accepted}
-use Rattle.promise.specs.Stream.{runCalls, wholeCalls}
+use Rattle.promise.specs.Stream.{wholeCalls}
 use Rattle.promise.specs.Technician.{lockStatus}
 
 -- R75, R77. What a datagram needs to reset: refusals 1 and 2 do not apply, and it is the sentinel and the armed key.

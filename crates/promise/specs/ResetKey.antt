@@ -30,9 +30,8 @@ use Rattle.endpoint.specs.State.{stateOf}
 use Rattle.endpoint.specs.Outcome.{Outcome}
 use Rattle.endpoint.specs.declared.Record.{Record}
 use Rattle.promise.specs.Rulebook.{opening, closing, ticking, taking, datagram, Asked, rule}
-use Rattle.promise.specs.Calls.{HostCall}
-use Rattle.promise.specs.Calls.{callOf, recordWith, areaWith}
-use Rattle.promise.specs.Stream.{runCalls, wholeCalls, GoodState}
+use Rattle.promise.specs.Calls.{HostCall, callOf, runCalls, recordWith, areaWith}
+use Rattle.promise.specs.Stream.{wholeCalls, GoodState}
 
 -- ---- the latest key
 

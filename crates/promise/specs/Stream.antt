@@ -17,16 +17,8 @@ use Rattle.endpoint.specs.Outcome.{Outcome}
 use Rattle.replies.specs.Bytes.{leastOutput}
 use Rattle.endpoint.specs.declared.Record.{Record}
 use Rattle.promise.specs.Rulebook.{Asked, Given, rule, open?, admit, shut, Fine}
-use Rattle.promise.specs.Calls.{HostCall, callOf, recordWith, areaWith, outcomeOf}
+use Rattle.promise.specs.Calls.{HostCall, runCalls, recordWith, areaWith, outcomeOf}
 use Rattle.promise.specs.Kept.{Kept}
-
--- R81. A list of calls, each state passed on: the last record and area, and what each call gave.
-unfoldable pub runCalls : Record → List ℕ → List HostCall → (Record × List ℕ) × List Outcome
-runCalls r area [] = ((r, area), [])
-runCalls r area (c ∷ cs) =
-    let o = callOf r area c in
-    let t = runCalls (o .state) (o .area) cs in
-    (t .0, o ∷ t .1)
 
 -- R81. What each call is to give: the device is the rules', the bytes are the undecided ones.
 unfoldable pub gives : Device → Held → List HostCall → List Outcome

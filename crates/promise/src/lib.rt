@@ -1,6 +1,7 @@
 // The theorems of the product, as contracts of functions that do nothing: each has its line in the verdict.
 ghost use Rattle.promise.specs.Kept.{CallsKeep};
 ghost use Rattle.promise.specs.Stream.{StreamTheorem, CuttingDoesNotMatter, MixingDoesNotMatter};
+ghost use Rattle.promise.specs.Whole.{DemandThree};
 ghost use Rattle.promise.specs.Examples.{ExamplesWorked};
 ghost use Rattle.promise.specs.Technician.{TechnicianLetIn};
 ghost use Rattle.promise.specs.Closure.{ClosureLeavesNothing};
@@ -12,6 +13,11 @@ ghost use Rattle.promise.specs.ResetKey.{LatestKeyCounts, KeyStaysInside
 // Every call keeps the record rules and the area, so refusals 1 and 2 never come in a run.
 pub fn calls_keep()
     ensures { λ _. ⌜ CallsKeep ⌝ }
+{}
+
+// R81. From a fresh record on, every answer, output, record and area is what the rules give over whole messages, and undecided bytes.
+pub fn demand_three()
+    ensures { λ _. ⌜ DemandThree ⌝ }
 {}
 
 // R81. Bytes cut anywhere and mixed come to what the rules give over whole messages.

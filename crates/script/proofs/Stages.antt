@@ -15,8 +15,7 @@ use Rattle.endpoint.specs.Take.{takeCall}
 use Rattle.reset.specs.Datagram.{datagramCall}
 use Rattle.endpoint.specs.declared.Record.{Record}
 use Rattle.promise.specs.Rulebook.{opening, closing, ticking, taking, datagram}
-use Rattle.promise.specs.Calls.{callOf}
-use Rattle.promise.specs.Stream.{runCalls}
+use Rattle.promise.specs.Calls.{callOf, runCalls}
 use Rattle.script.specs.Script.{Stage, stage, outputAfter, stageOf, sentBy, callBy, firstSize, callIn, behind, callsFrom, callsIn, lastOutput, lastAnswer, endOf, scriptOf}
 use Rattle.answers.specs.Numbers.{numbersWith, numbersOf}
 use Rattle.answers.specs.declared.Numbers.{Numbers}

@@ -9,8 +9,7 @@ use Rattle.stream.specs.Machine.{deliver, ask}
 use Rattle.endpoint.specs.Outcome.{Outcome}
 use Rattle.endpoint.specs.declared.Record.{Record}
 use Rattle.promise.specs.Rulebook.{opening, closing, ticking, taking, datagram}
-use Rattle.promise.specs.Calls.{HostCall, callOf}
-use Rattle.promise.specs.Stream.{runCalls}
+use Rattle.promise.specs.Calls.{HostCall, callOf, runCalls}
 use Rattle.answers.specs.Numbers.{numbersOf}
 use Rattle.answers.specs.declared.Numbers.{Numbers}
 

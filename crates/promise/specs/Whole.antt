@@ -1,0 +1,146 @@
+-- R81. DEMAND THREE: what the real calls give, from a fresh record on, is what the rules give over whole messages, and undecided bytes.
+use Prim.Native.Nat.{ℕ, zero, suc, _-_, _<_}
+use mathlib.Core.Path.{_≡_}
+use mathlib.Core.Bool.{Bool, cond, true, false}
+use mathlib.Core.List.{List, [], _∷_, _++_, map}
+use lib.ListN.{length, take}
+use Rattle.octets.specs.Zeros.{zeros}
+use Rattle.frame.specs.Decide.{decide, settled}
+use Rattle.area.specs.Area.{areaBytes}
+use Rattle.device.specs.State.{freshOf}
+use Rattle.device.specs.declared.Device.{Device}
+use Rattle.stream.specs.Machine.{deliver, ask, handed, asked, Held, none-held, put, only, rules}
+use Rattle.stream.specs.Promise.{AllBytes}
+use Rattle.answers.specs.Numbers.{deliveryNumbers}
+use Rattle.answers.specs.declared.Delivery.the-variants as deliveries
+use Rattle.endpoint.specs.State.{freshState}
+use Rattle.endpoint.specs.Outcome.{Outcome}
+use Rattle.endpoint.specs.declared.Record.{Record}
+use Rattle.promise.specs.Rulebook.{Asked, Given, given, rule, open?, admit}
+use Rattle.promise.specs.Calls.{HostCall, runCalls, withTaken, recordWith, areaWith}
+use Rattle.promise.specs.Kept.{heldIn, Kept}
+
+-- ---- each call's turn in the run over whole messages
+
+-- R16, R28. The bytes that wait and those of a piece behind them, byte by byte, up to the first at which they are decided.
+unfoldable pub upTo : List ℕ → List ℕ → List ℕ
+upTo bytes [] = bytes
+upTo bytes (b ∷ piece) =
+    cond (settled (decide (bytes ++ (b ∷ [])))) (bytes ++ (b ∷ [])) (upTo (bytes ++ (b ∷ [])) piece)
+
+-- R81. What a call is in the run over whole messages.
+pub data Turn : Type 0 where
+  -- a delivery that hands no message over: the host is told this at once
+  tells : Given → Turn
+  -- the rules get this whole call; of a delivery's piece so many bytes are taken, the last of them the deciding byte
+  hands : ℕ → Asked → Turn
+
+-- R28, R29, R64. The turn of a delivery to connection n and the bytes that then wait: by the number that refuses it, or 0, and by
+-- whether m is decided, which is the bytes that waited and the piece's up to the deciding one.
+unfoldable pub turnBy : ℕ → Bool → Held → ℕ → List ℕ → List ℕ → List ℕ → Turn × Held
+turnBy (suc number) b h n m piece out = (tells (given (suc number ∷ []) out), h)
+turnBy zero false h n m piece out = (tells (given (deliveryNumbers (deliveries.More (length piece))) out), put h n m)
+turnBy zero true h n m piece out = (hands (length m - length (h n)) (handed n m out), put h n [])
+
+-- R81. A call's turn, where the rules have come to device d and the bytes h wait.
+unfoldable pub turnOf : Device → Held → HostCall → Turn × Held
+turnOf d h (deliver n piece out) =
+    let m = upTo (h n) piece in
+    turnBy (admit d n out) (settled (decide m)) h n m piece out
+turnOf d h (ask a) = (hands 0 (asked a), h)
+
+-- R81. The rules' device after a turn.
+unfoldable pub deviceBy : Device → Turn → Device
+deviceBy d (tells g) = d
+deviceBy d (hands k w) = rule d w .0
+
+-- R60, R81. The calls' turns one after another, and the bytes that wait at the end; a connection that is closed has none.
+unfoldable pub turnsOf : Device → Held → List HostCall → List Turn × Held
+turnsOf d h [] = ([], h)
+turnsOf d h (c ∷ calls) =
+    let t = turnOf d h c in
+    let e = deviceBy d (t .0) in
+    let rest = turnsOf e (only (open? e) (t .1)) calls in
+    (t .0 ∷ rest .0, rest .1)
+
+-- R81. THE WHOLE CALLS of those turns.
+unfoldable pub wholesIn : List Turn → List Asked
+wholesIn [] = []
+wholesIn (tells g ∷ turns) = wholesIn turns
+wholesIn (hands k w ∷ turns) = w ∷ wholesIn turns
+
+-- ---- what the host is told
+
+-- R28, R66. What the rules gave to a whole call; a delivery's answer says how many bytes of its piece were taken.
+unfoldable pub withBytes : ℕ → Asked → Given → Given
+withBytes k (handed n m out) o = given (withTaken k (o .answer)) (o .output)
+withBytes k (asked a) o = o
+
+-- R81. Each call's answer and output, where the rules gave these to the whole calls, in order.
+unfoldable pub toldIn : List Turn → List Given → List Given
+toldIn [] os = []
+toldIn (tells g ∷ turns) os = g ∷ toldIn turns os
+toldIn (hands k w ∷ turns) [] = []
+toldIn (hands k w ∷ turns) (o ∷ os) = withBytes k w o ∷ toldIn turns os
+
+-- R81. What the host sees of a call.
+abbrev pub hostSees : Outcome → Given
+hostSees o = given (o .answer) (o .output)
+
+-- ---- the theorem
+
+-- R16. The last byte of m is its deciding byte: with it m is decided, before it m is not.
+pub record EndsDeciding (m : List ℕ) : Type 0 where
+  pub decided : settled (decide m) ≡ true
+  pub before : (k : ℕ) → k < length m → settled (decide (take k m)) ≡ false
+
+-- R16, R81. So of every message among whole calls.
+unfoldable pub AllEndDeciding : List Asked → Type 0
+AllEndDeciding [] = Unit {0}
+AllEndDeciding (handed n m out ∷ ws) = EndsDeciding m × AllEndDeciding ws
+AllEndDeciding (asked a ∷ ws) = AllEndDeciding ws
+
+module _ (d : Device) (h : Held) (calls : List HostCall) where
+  -- R81. The whole calls, from device d with the bytes h waiting.
+  abbrev pub wholesOf : List Asked
+  wholesOf = wholesIn (turnsOf d h calls .0)
+
+  -- R81. THE RULES, one whole call after another: the last device, and what each of them gave.
+  abbrev pub byRules : Device × List Given
+  byRules = rules rule d wholesOf
+
+  -- R81. So each call's answer and output.
+  abbrev pub hostTold : List Given
+  hostTold = toldIn (turnsOf d h calls .0) (byRules .1)
+
+  -- R81. The bytes that wait at the end.
+  abbrev pub bytesWaiting : Held
+  bytesWaiting = turnsOf d h calls .1
+
+  -- R81. A run of these calls, its last record and area and what each call gave, is as the rules over whole messages.
+  pub record AsRules (run : (Record × List ℕ) × List Outcome) : Type 0 where
+    -- every reply, closure, notification, keep-alive and refusal: what each call answers and leaves in the output
+    pub sees : map hostSees (run .1) ≡ hostTold
+    -- every lock, subscription and mute: the record is the rules' device and the counts of the bytes that wait
+    pub state : run .0 .0 ≡ recordWith (byRules .0) bytesWaiting
+    -- the area is those bytes, and zeros
+    pub area : run .0 .1 ≡ areaWith bytesWaiting
+    -- the bytes that wait are undecided, and a closed connection has none
+    pub undecided : (n : ℕ) → settled (decide (bytesWaiting n)) ≡ false
+    pub closed : (n : ℕ) → open? (byRules .0) n ≡ false → bytesWaiting n ≡ []
+    -- each message was handed over at the place of its deciding byte
+    pub messages : AllEndDeciding wholesOf
+
+-- Theorem. What any calls give is what the rules give over whole messages, each at the place of its deciding byte, and undecided bytes.
+pub record DemandThree : Type 0 where
+  -- from a fresh record and a zeroed area, whatever calls are made
+  pub fresh : (reading : ℕ) (calls : List HostCall) → AllBytes calls
+      → AsRules (freshOf reading) none-held calls (runCalls (freshState reading) (zeros areaBytes) calls)
+  -- and from any record and area to which refusals 1 and 2 do not apply
+  pub later : (r : Record) (area : List ℕ) (calls : List HostCall) → Kept r area → AllBytes calls
+      → AsRules (r .device) (heldIn r area) calls (runCalls r area calls)
+  -- a run goes on from what it left, so the above holds at each place of a longer run
+  pub places : (r : Record) (area : List ℕ) (calls more : List HostCall)
+      → let run = runCalls r area calls in
+      let rest = runCalls (run .0 .0) (run .0 .1) more in
+      runCalls r area (calls ++ more) ≡ (rest .0, run .1 ++ rest .1)
