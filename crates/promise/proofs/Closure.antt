@@ -1,17 +1,17 @@
 -- ClosureLeavesNothing: what a closure leaves of its connection, and what of the others. Assumes nothing.
 use Prim.Native.Nat.{ℕ, _+_, _-_, _≤_, _<_}
-use mathlib.Core.Path.{_≡_, refl, sym, ap, _∙_}
+use mathlib.Core.Path.{_≡_, refl, sym, ap, subst, _∙_}
 use mathlib.Core.Logic.{⊎-elim}
-use mathlib.Core.Bool.{Bool, cond, true, false, _&&_, and-false}
-use mathlib.Core.List.{List, [], _∷_, _++_}
+use mathlib.Core.Bool.{Bool, cond, true, false, not, _&&_, _||_, and-true, and-false}
+use mathlib.Core.List.{List, [], _∷_, _++_, map}
 use native.Mathlib.Omega.{arith}
 use lib.Dec.{eqb, ltb}
-use lib.ListN.{length, getD, set}
+use lib.ListN.{length, getD, set, List·getD-map, List·getD-eq-default}
 use lib.Seq.{getD-set-same}
 use borrow.Author.Tests.{eqb-true, eqb-false, eq-eqb, ne-eqb, not-true, ltb-true, ltb-false}
 use Rattle.laws.specs.Lists.{any}
 use Rattle.laws.proofs.Conds.{and-left}
-use Rattle.laws.proofs.Tables.{clash, any-index, map-all}
+use Rattle.laws.proofs.Tables.{clash, any-index, all-getD, map-all}
 use Rattle.octets.specs.Zeros.{zeros}
 use Rattle.frame.specs.Decide.{decide}
 use Rattle.frame.specs.declared.Decision.{Decision}
@@ -19,28 +19,30 @@ use Rattle.frame.specs.declared.Decision.the-variants.{Undecided, Faulty, Sound
 use Rattle.area.specs.Area.{partBytes, undecidedOf, partCleared, closedCleared, heldKept}
 use Rattle.connection.specs.State as connections
 use Rattle.connection.specs.State.{closed, opened, liveAt, lowestFree}
+use Rattle.connection.specs.Obeys.{isClosed, connectionObeys}
 use Rattle.connection.specs.Supervision.{closesAt, connectionTicked}
 use Rattle.connection.specs.declared.Connection.{Connection}
-use Rattle.subscription.specs.State.{free}
+use Rattle.connection.proofs.Keeps.{supervision-kept}
+use Rattle.subscription.specs.State.{free, sweptOf}
 use Rattle.subscription.specs.Obeys.{isFree, entryObeys}
 use Rattle.subscription.specs.declared.Subscription.{Subscription}
 use Rattle.subscription.proofs.Keeps as entries
 use Rattle.subscription.proofs.Keeps.{entry-view, free-unused}
-use Rattle.holders.specs.Holders.{holderObeys}
+use Rattle.holders.specs.Holders.{holderObeys, sweptHolder}
 use Rattle.device.specs.State.{openOf, sweepOf, closeOf, livesIn}
 use Rattle.device.specs.Obeys.{deviceObeys}
 use Rattle.device.specs.Setters.{withConnections}
-use Rattle.device.specs.Time.{tickOf}
+use Rattle.device.specs.Time.{advanced, tickStep, tickOf}
 use Rattle.device.specs.Closure.{isLockOf, isEntryOf, locksOf, subscriptionsOf, noLocks, noEntries, Gone, Stays}
 use Rattle.device.specs.declared.Device.{Device}
-use Rattle.device.proofs.Keeps.{obeys-are}
+use Rattle.device.proofs.Keeps.{Obeys, obeys-are}
 use Rattle.device.proofs.Closures.{closure-frees}
 use Rattle.stream.specs.Machine.{Held, put, only}
 use Rattle.stream.specs.Lent.{partHolding, flat, countsOf}
 use Rattle.stream.proofs.Lent.{Small, put-same, put-other, getD-counted, set-counted, part-flat, clear-flat}
 use Rattle.stream.proofs.Stream.{put-elim}
 use Rattle.endpoint.specs.State.{stateOf, recordObeys, closedState}
-use Rattle.endpoint.specs.Outcome.{Outcome}
+use Rattle.endpoint.specs.Outcome.{Outcome, outcome}
 use Rattle.endpoint.specs.Calls.{openedBy, openCall, closeCall, tickedBy, tickCall}
 use Rattle.replies.specs.Bytes.{leastOutput}
 use Rattle.delivery.specs.Intake.{messaged, deliveredBy, takenIn}
@@ -51,11 +53,11 @@ use Rattle.taking.proofs.Takes.{index-meets}
 use Rattle.promise.specs.Rulebook.{open?, bitOf}
 use Rattle.promise.specs.Kept.{heldIn, Kept}
 use Rattle.promise.specs.Technician.{stepAt, passes}
-use Rattle.promise.specs.Closure.{areaPart, Left, Unmoved, Closed, New, ClosureLeavesNothing}
-use Rattle.promise.proofs.OpenConnections.{GoodAt, live-still}
+use Rattle.promise.specs.Closure.{areaPart, Left, Unmoved, isLockIn, isEntryIn, Closed, ClosedAlone, ClosedByTick, New, ClosureLeavesNothing}
+use Rattle.promise.proofs.OpenConnections.{GoodAt, live-closed, live-gone, live-still}
 use Rattle.promise.proofs.Deliveries.{small}
 use Rattle.promise.proofs.Calls.{ticked-counts, ticked-area}
-use Rattle.promise.proofs.Masks.{mask-bit, mask-beyond}
+use Rattle.promise.proofs.Masks.{mask-bit, mask-beyond, mask-small}
 use Rattle.promise.proofs.HeldBytes.{kept-good, kept-counts, kept-area}
 use Rattle.promise.proofs.Ticks.{maskAt, Ticks, passed, ticked-at, never-idle}
 
@@ -99,6 +101,37 @@ ticked-blank step c k = go (eqb (c .beat) 0) refl
     go true b = clash _ (closesAt step c) k (never-idle step c (eqb-true (c .beat) 0 b))
     go false b = rw (b, k)
 
+-- ---- what is swept where whoever was open stays so, but for these
+module _ (cs next : List Connection) (these : ℕ → Bool) (f : (k : ℕ) → liveAt next k ≡ (liveAt cs k && not (these k))) where
+  lock-swept : (h : ℕ) → holderObeys cs h ≡ true → sweptHolder next h ≡ cond (isLockIn these h) 0 h
+  unfolding sweptHolder holderObeys isLockIn
+  lock-swept h o = go (eqb h 0) refl (these (h - 1)) refl
+    where
+      go : (z : Bool) → eqb h 0 ≡ z → (t : Bool) → these (h - 1) ≡ t → cond (holderObeys next h) h 0 ≡ cond (isLockIn these h) 0 h
+      go true z t e = rw z
+      go false z true e = rw (z, f (h - 1), e, and-false)
+      go false z false e =
+          let l : liveAt cs (h - 1) ≡ true = rw z at o in
+          rw (z, f (h - 1), l, e)
+
+  entry-swept : (s : Subscription) → entryObeys cs s ≡ true → sweptOf next s ≡ cond (isEntryIn these s) free s
+  unfolding sweptOf isEntryIn
+  entry-swept s o = ⊎-elim (λ (x : isFree s ≡ true). rw (free-unused s x)) (λ (k : entries.Sound cs s). go k (these (s .connection)) refl) (entry-view cs s o)
+    where
+      go : entries.Sound cs s → (t : Bool) → these (s .connection) ≡ t → sweptOf next s ≡ cond (isEntryIn these s) free s
+      go k true e = rw (k .used, f (s .connection), e, and-false)
+      go k false e = rw (k .used, f (s .connection), k .live, e)
+
+-- a connection that is not open has no heartbeat
+idle-shut : (c : Connection) → connectionObeys c ≡ true → c .live ≡ false → c .beat ≡ 0
+unfolding connectionObeys isClosed
+idle-shut c o l = eqb-true (c .beat) 0 (go (eqb (c .beat) 0) (eqb (c .form) 0) (rw l at o))
+  where
+    go : (b f : Bool) → ((f && b && eqb (c .silence) 0 && eqb (c .quiet) 0 && not (c .due)) || false) ≡ true → b ≡ true
+    go true f q = refl
+    go false true q = q
+    go false false q = q
+
 -- ---- a record and an area that hold the bytes j, after one that refusals 1 and 2 let pass
 record Into (j : Held) (held area : List ℕ) : Type 0 where
   few : Small j
@@ -114,6 +147,17 @@ module _ (r : Record) (area : List ℕ) (w : Kept r area) where
 
   low : (n : ℕ) → liveAt (r .device .connections) n ≡ true → n < 8
   low n l = live-low (r .device .connections) n 8 l (w .eight)
+
+  rules : Obeys (r .device)
+  unfolding recordObeys
+  rules = obeys-are (r .device) (and-left (deviceObeys (r .device)) _ (w .obeys))
+
+  module _ (next : List Connection) (these : ℕ → Bool) (f : (k : ℕ) → liveAt next k ≡ (liveAt (r .device .connections) k && not (these k))) where
+    locks-swept : map (sweptHolder next) (r .device .holders) ≡ map (λ (h : ℕ). cond (isLockIn these h) 0 h) (r .device .holders)
+    locks-swept = map-all (holderObeys (r .device .connections)) _ _ (lock-swept (r .device .connections) next these f) (r .device .holders) (rules .holders)
+
+    entries-swept : map (sweptOf next) (r .device .subscriptions) ≡ map (λ (s : Subscription). cond (isEntryIn these s) free s) (r .device .subscriptions)
+    entries-swept = map-all (entryObeys (r .device .connections)) _ _ (entry-swept (r .device .connections) next these f) (r .device .subscriptions) (rules .entries)
 
   module _ (e : Device) (j : Held) (held next : List ℕ) (i : Into j held next) where
     left-in : (n : ℕ) → n < 8 → Gone n (r .device) e → getD (e .connections) n closed ≡ closed → j n ≡ [] → Left n r (stateOf e held) next
@@ -169,11 +213,38 @@ module _ (r : Record) (area : List ℕ) (w : Kept r area) where
     state : o .state ≡ closedState r n
     next : o .area ≡ partCleared area n
 
-  closed-by : (n : ℕ) (o : Outcome) → Shuts n o → Closed n r area o
+  closed-one : (n : ℕ) → liveAt (r .device .connections) n ≡ true → (answer output : List ℕ)
+      → Closed (λ (k : ℕ). eqb k n) r area (outcome answer (closedState r n) (partCleared area n) output)
+  unfolding closedState closeOf sweepOf
+  closed-one n v answer output =
+      record {
+        were = λ k e. ap (liveAt (r .device .connections)) (eqb-true k n e) ∙ v;
+        after = after;
+        left = λ k e. subst (λ (m : ℕ). Left m r (closedState r n) (partCleared area n)) (sym (eqb-true k n e)) (closed-left n v);
+        others = closed-others n v;
+        shut = λ k z. closed-same n v k (apart k z (eqb k n) refl);
+        locks = locks-swept (set (r .device .connections) n closed) (λ (k : ℕ). eqb k n) after;
+        entries = entries-swept (set (r .device .connections) n closed) (λ (k : ℕ). eqb k n) after;
+        mutes = refl;
+        mechanism = refl;
+      }
+    where
+      apart : (k : ℕ) → liveAt (r .device .connections) k ≡ false → (b : Bool) → eqb k n ≡ b → eqb k n ≡ false
+      apart k z true e = clash _ (liveAt (r .device .connections) n) v (ap (liveAt (r .device .connections)) (sym (eqb-true k n e)) ∙ z)
+      apart k z false e = e
+
+      after : (k : ℕ) → liveAt (closeOf (r .device) n .connections) k ≡ (liveAt (r .device .connections) k && not (eqb k n))
+      after k = go (eqb k n) refl
+        where
+          go : (b : Bool) → eqb k n ≡ b → liveAt (closeOf (r .device) n .connections) k ≡ (liveAt (r .device .connections) k && not (eqb k n))
+          go true e = ap (liveAt (closeOf (r .device) n .connections)) (eqb-true k n e) ∙ live-gone (r .device) n ∙ rw (e, and-false)
+          go false e = live-closed (r .device) n k e ∙ rw (e, and-true)
+
+  closed-by : (n : ℕ) (o : Outcome) → Shuts n o → ClosedAlone n r area o
   closed-by n o s =
       record {
-        left = rw (s .state, s .next) (closed-left n (s .live));
-        others = λ k d v. rw (s .state, s .next) (closed-others n (s .live) k d v);
+        one = rw (s .state, s .next) (closed-one n (s .live) (o .answer) (o .output));
+        reading = rw (s .state) (unfold closedState in unfold closeOf in unfold sweepOf in refl);
         supervised = λ k d. rw (s .state) (closed-same n (s .live) k d);
       }
 
@@ -250,6 +321,68 @@ module _ (r : Record) (area : List ℕ) (w : Kept r area) where
         rw (t .given)
         (unmoved-in e (only (open? e) (heldIn r area)) (heldKept (livesIn e) (r .held)) (closedCleared (livesIn e) area) only-into k l g
         (rw (g .live)))
+
+    -- the connections after it
+    next : List Connection
+    next = map (connectionTicked (stepAt r reading)) (r .device .connections)
+
+    swept : tickOf (r .device) reading .device ≡ sweepOf (advanced (r .device) reading next)
+    unfolding tickStep next
+    swept = rw (t .timely .early, t .timely .fits)
+
+    bit-is : (n : ℕ) → bitOf mask n ≡ closesAt (stepAt r reading) (getD (r .device .connections) n closed)
+    bit-is n = go (ltb n 8) refl
+      where
+        go : (x : Bool) → ltb n 8 ≡ x → bitOf mask n ≡ closesAt (stepAt r reading) (getD (r .device .connections) n closed)
+        go true x = bit-tells n (ltb-true n 8 x)
+        go false x =
+            let u : length (r .device .connections) ≤ n = omega (arith, w .eight, ltb-false n 8 x) in
+            rw (mask-is, mask-beyond (closesAt (stepAt r reading)) (r .device .connections) n u, List·getD-eq-default (r .device .connections) closed u)
+            (sym (never-idle (stepAt r reading) closed refl))
+
+    live-next : (n : ℕ) → liveAt next n ≡ (liveAt (r .device .connections) n && not (bitOf mask n))
+    unfolding liveAt next connectionTicked
+    live-next n =
+        ap (λ (c : Connection). c .live) (List·getD-map (connectionTicked (stepAt r reading)) (r .device .connections) n closed)
+        ∙ supervision-kept .leaving (stepAt r reading) (getD (r .device .connections) n closed) ∙ rw (bit-is n)
+
+    -- whoever is not open has no heartbeat
+    idle : (n : ℕ) → liveAt (r .device .connections) n ≡ false → getD (r .device .connections) n closed .beat ≡ 0
+    unfolding liveAt
+    idle n z =
+        idle-shut (getD (r .device .connections) n closed)
+        (all-getD connectionObeys (r .device .connections) n closed (rules .connections) (supervision-kept .shut)) z
+
+    were : (n : ℕ) → bitOf mask n ≡ true → liveAt (r .device .connections) n ≡ true
+    were n b = go (liveAt (r .device .connections) n) refl
+      where
+        go : (l : Bool) → liveAt (r .device .connections) n ≡ l → liveAt (r .device .connections) n ≡ true
+        go true l = l
+        go false l = clash _ (bitOf mask n) b (bit-is n ∙ never-idle (stepAt r reading) (getD (r .device .connections) n closed) (idle n l))
+
+    shut-same : (n : ℕ) → liveAt (r .device .connections) n ≡ false
+        → connectionTicked (stepAt r reading) (getD (r .device .connections) n closed) ≡ getD (r .device .connections) n closed
+    unfolding connectionTicked
+    shut-same n z = rw (eq-eqb (getD (r .device .connections) n closed .beat) 0 (idle n z))
+
+    closed-by-tick : ClosedByTick mask r area (tickCall r area reading)
+    unfolding tickedBy sweepOf
+    closed-by-tick =
+        record {
+          byte = rw mask-is (mask-small (closesAt (stepAt r reading)) (r .device .connections) 8 (omega (arith, w .eight)));
+          masked =
+              record {
+                were = were;
+                after = λ n. rw (t .given, swept) (live-next n);
+                left = tick-left;
+                others = tick-others;
+                shut = λ n z. rw (t .given) (ticked-at r reading n (t .timely) ∙ shut-same n z);
+                locks = rw (t .given, swept) (locks-swept next (bitOf mask) live-next);
+                entries = rw (t .given, swept) (entries-swept next (bitOf mask) live-next);
+                mutes = rw (t .given, swept) refl;
+                mechanism = rw (t .given, swept) refl;
+              };
+        }
 
 -- ---- an opening
 
@@ -331,8 +464,7 @@ closure-leaves-nothing =
     record {
       byHost = λ r area n w p. closed-by r area w n (closeCall r area n) (host r area w n p);
       byFault = λ r area n piece out taken number w p. closed-by r area w n (deliverCall r area n piece out) (fault r area w n piece out taken number p);
-      byTick = λ r area reading mask w. tick-left r area (w .kept) reading mask (w .answer);
-      byTickOthers = λ r area reading mask w. tick-others r area (w .kept) reading mask (w .answer);
+      byTick = λ r area reading mask w. closed-by-tick r area (w .kept) reading mask (w .answer);
       reopened = λ r area n w. new r area (w .kept) n (w .answer);
       openOthers = λ r area n w. open-others r area (w .kept) n (w .answer);
     }

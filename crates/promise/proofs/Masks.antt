@@ -1,5 +1,5 @@
 -- The bits of a mask: for DeviceLaws and Closure. Assumes nothing.
-use Prim.Native.Nat.{ℕ, zero, suc, _+_, _*_, _/_, _%_, _≤_, _<_}
+use Prim.Native.Nat.{ℕ, zero, suc, _+_, _*_, _/_, _%_, _^_, _≤_, _<_}
 use mathlib.Core.Path.{_≡_, refl}
 use mathlib.Core.Bool.{Bool, cond, true, false}
 use mathlib.Core.List.{List, [], _∷_}
@@ -35,3 +35,16 @@ unfolding bitOf
 mask-beyond p [] k h = none-bit k
 mask-beyond p (x ∷ l) zero h = absurd (not-suc-le-zero h)
 mask-beyond p (x ∷ l) (suc k) h = rw (bit-half (mask p l) (p x)) (mask-beyond p l k (le-of-suc-le-suc h))
+
+pub mask-small : {A : Type 0} (p : A → Bool) (l : List A) (n : ℕ) → length l ≤ n → mask p l < 2 ^ n
+mask-small p [] n h = power n
+  where
+    power : (n : ℕ) → 0 < 2 ^ n
+    power zero = omega arith
+    power (suc n) = let z = power n in omega arith
+mask-small p (x ∷ l) zero h = absurd (not-suc-le-zero h)
+mask-small p (x ∷ l) (suc n) h = go (p x) (mask-small p l n (le-of-suc-le-suc h))
+  where
+    go : (b : Bool) → mask p l < 2 ^ n → cond b 1 0 + 2 * mask p l < 2 ^ suc n
+    go true z = omega arith
+    go false z = omega arith
