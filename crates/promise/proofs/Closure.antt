@@ -52,7 +52,7 @@ use Rattle.endpoint.proofs.States.{live-low}
 use Rattle.taking.proofs.Takes.{index-meets}
 use Rattle.promise.specs.Rulebook.{open?, bitOf}
 use Rattle.promise.specs.Kept.{heldIn, Kept}
-use Rattle.promise.specs.Technician.{stepAt, passes}
+use Rattle.promise.specs.Ticks.{stepAt, passes}
 use Rattle.promise.specs.Closure.{areaPart, Left, Unmoved, isLockIn, isEntryIn, Closed, ClosedAlone, ClosedByTick, New, ClosureLeavesNothing}
 use Rattle.promise.proofs.OpenConnections.{GoodAt, live-closed, live-gone, live-still}
 use Rattle.promise.proofs.Deliveries.{small}

@@ -45,7 +45,7 @@ use Rattle.taking.proofs.Takes.{connection-obeys}
 use Rattle.promise.specs.Rulebook.{ticking}
 use Rattle.promise.specs.Calls.{callOf}
 use Rattle.promise.specs.Kept.{Kept}
-use Rattle.promise.specs.Technician.{stepAt, passes}
+use Rattle.promise.specs.Ticks.{stepAt, passes}
 use Rattle.promise.specs.Heartbeats.{Paced, openAfter, openAtLast, broughtBy, isUnanswered, Ready, Reminds, SendsTo, count, somethingWaits, waitingIn, takesCall, HeartbeatSent, ticksCall, allPass, ticksTime, SentWithin, PacedTicks, DueTicks, ReadyTake, Roomy}
 use Rattle.promise.proofs.OpenConnections.{lives-sent, lives-told}
 use Rattle.promise.proofs.Ways.{delivery-ways}

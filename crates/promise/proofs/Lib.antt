@@ -9,8 +9,7 @@ pub mod Kept
 pub mod Stream
 pub mod Whole
 pub mod Ticks
-pub mod Untouched
-pub mod Technician
+pub mod Locks
 pub mod Closure
 pub mod Heartbeats
 pub mod Mechanism

@@ -38,8 +38,8 @@ use Rattle.device.proofs.Closures.{free-locks}
 use Rattle.device.proofs.Commands.{lock-other, lock-done}
 use Rattle.stream.specs.Promise.{AllBytes}
 use Rattle.promise.specs.Kept.{Accepted}
-use Rattle.promise.specs.Technician.{lockStatus}
-use Rattle.promise.proofs.Untouched.{locked-out}
+use Rattle.promise.specs.Locks.{lockStatus}
+use Rattle.promise.proofs.Locks.{locked-out}
 use Rattle.promise.proofs.Channels.{fresh-free, calls-free}
 
 module _ (r : Record) (area g : List ℕ) where

@@ -28,7 +28,7 @@ use Rattle.endpoint.specs.Deliver.{heldAt, deliverCall}
 use Rattle.endpoint.specs.Take.{takeCall}
 use Rattle.endpoint.specs.declared.Record.{Record}
 use Rattle.promise.specs.Kept.{Kept}
-use Rattle.promise.specs.Technician.{stepAt, passes}
+use Rattle.promise.specs.Ticks.{stepAt, passes}
 
 -- R56. The record and the area after ticks at these readings, with no other call between.
 unfoldable pub ticksCall : Record → List ℕ → List ℕ → Record × List ℕ

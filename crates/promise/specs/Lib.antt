@@ -4,7 +4,8 @@ pub mod Kept
 pub mod Stream
 pub mod Whole
 pub mod Examples
-pub mod Technician
+pub mod Ticks
+pub mod Locks
 pub mod Closure
 pub mod Heartbeats
 pub mod ResetKey

@@ -37,7 +37,7 @@ use Rattle.promise.specs.Rulebook.{datagram, Asked, rule, open?, admit}
 use Rattle.promise.specs.Calls.{HostCall, runCalls}
 use Rattle.promise.specs.Kept.{Accepted}
 use Rattle.promise.specs.Stream.{wholeCalls}
-use Rattle.promise.specs.Technician.{lockStatus}
+use Rattle.promise.specs.Locks.{lockStatus}
 
 -- R75, R77. What a datagram needs to reset: refusals 1 and 2 do not apply, and it is the sentinel and the armed key.
 pub record Matches (r : Record) (area g : List ℕ) : Type 0 where

@@ -3,7 +3,6 @@ ghost use Rattle.promise.specs.Kept.{CallsKeep};
 ghost use Rattle.promise.specs.Stream.{StreamTheorem, CuttingDoesNotMatter, MixingDoesNotMatter};
 ghost use Rattle.promise.specs.Whole.{DemandThree};
 ghost use Rattle.promise.specs.Examples.{ExamplesWorked};
-ghost use Rattle.promise.specs.Technician.{TechnicianLetIn};
 ghost use Rattle.promise.specs.Closure.{ClosureLeavesNothing};
 ghost use Rattle.promise.specs.Heartbeats.{HeartbeatSent};
 ghost use Rattle.promise.specs.Reset.{ResetByKey, RackFreeAgain};
@@ -36,11 +35,6 @@ pub fn mixing_does_not_matter()
 // R83. The examples, as one table.
 pub fn examples_worked()
     ensures { λ _. ⌜ ExamplesWorked ⌝ }
-{}
-
-// When a lock of a connection that has gone silent can be taken.
-pub fn technician_let_in()
-    ensures { λ _. ⌜ TechnicianLetIn ⌝ }
 {}
 
 // At a closure nothing of that connection is left, and nothing of the others is touched.

@@ -1,5 +1,5 @@
--- What a connection keeps in calls that are not about it: for Technician and Reset. Assumes nothing.
-use Prim.Native.Nat.{ℕ, zero, suc, _+_, _<_}
+-- What a connection keeps in calls that are not about it: for Technician. Assumes nothing.
+use Prim.Native.Nat.{ℕ, zero, suc, _+_}
 use mathlib.Core.Path.{_≡_, refl, sym, ap, _∙_}
 use mathlib.Core.Bool.{Bool, cond, true, false, not, _&&_, _||_}
 use mathlib.Core.List.{List, [], _∷_, _++_}
@@ -20,7 +20,6 @@ use Rattle.area.specs.Area.{areaSound, undecidedOf}
 use Rattle.connection.specs.State.{closed, opened, liveAt, isNotOpen, lowestDue}
 use Rattle.connection.specs.Supervision.{heardOf, sentOf, beatingOf}
 use Rattle.connection.specs.declared.Connection.{Connection}
-use Rattle.objects.specs.Answers.{failedOf}
 use Rattle.holders.specs.Holders.{ownerOf, isOther}
 use Rattle.subscription.specs.State.{free, lowestWaiting}
 use Rattle.objects.specs.Methods.{lockMethod, setMethod, placeOf, isLocking}
@@ -39,9 +38,8 @@ use Rattle.device.specs.declared.Opening.{Opening}
 use Rattle.device.specs.declared.Opening.the-variants as opens
 use Rattle.device.specs.Closure.{isLockOf, locksOf, Stays}
 use Rattle.device.specs.declared.Device.{Device}
-use Rattle.device.specs.declared.Ran.{Ran}
 use Rattle.device.proofs.Closures.{closure-frees}
-use Rattle.device.proofs.Commands.{neither-fails, lock-other}
+use Rattle.device.proofs.Commands.{neither-fails}
 use Rattle.endpoint.specs.State.{recordObeys, closedState}
 use Rattle.endpoint.specs.Outcome.{Outcome}
 use Rattle.endpoint.specs.Calls.{openedBy, openCall, closeCall}
@@ -51,9 +49,9 @@ use Rattle.taking.specs.Dispatch.{subscriptionAt, notifiedOf}
 use Rattle.endpoint.specs.Take.{takeCall}
 use Rattle.reset.specs.Datagram.{datagramCall}
 use Rattle.endpoint.specs.declared.Record.{Record}
-use Rattle.promise.specs.Technician.{lockStatus}
 use Rattle.promise.proofs.DeviceLaws.{length-close}
+use Rattle.promise.proofs.Locks.{other-holds}
 use Rattle.promise.proofs.Ways.{delivery-ways, taking-ways, done-ways, run-ways}
 
 -- ---- what a connection holds while it stays
 pub lock-kept : (n at : ℕ) (d e : Device) → Stays n d e → getD (d .holders) at 0 ≡ n + 1 → getD (e .holders) at 0 ≡ n + 1
@@ -73,20 +71,6 @@ lock-kept n at d e a h = find (getD (e .holders) at 0) (eqb (getD (e .holders) a
     find : (x : ℕ) (b : Bool) → eqb x (n + 1) ≡ b → own x ≡ n + 1 → x ≡ n + 1
     find x true q z = eqb-true x (n + 1) q
     find x false q z = let y : 0 ≡ n + 1 = rw q at z in absurd (omega arith)
-
-other-holds : (n k : ℕ) → eqb k n ≡ false → isOther (n + 1) k ≡ true
-unfolding isOther ownerOf
-other-holds n k e = go (ltb k 8) refl
-  where
-    go : (b : Bool) → ltb k 8 ≡ b → not (eqb (n + 1) 0) && not (eqb (n + 1) (cond b (k + 1) 0)) ≡ true
-    go true b = rw (ne-eqb (n + 1) 0 (λ z. omega arith), ne-eqb (n + 1) (k + 1) (λ z. eqb-false k n e (omega arith)))
-    go false b = rw (ne-eqb (n + 1) 0 (λ z. omega arith))
-
-pub locked-out : (d : Device) (n k at : ℕ) → eqb k n ≡ false → at < 8 → getD (d .holders) at 0 ≡ n + 1 → lockStatus d k at ≡ 3
-unfolding failedOf
-locked-out d n k at e h q =
-    ap (λ (x : Ran). x .answer .status)
-    (sym (lock-other d k at h (isOther (getD (d .holders) at 0) k) refl (rw q (other-holds n k e)) (failedOf 3) refl))
 
 -- ---- other calls
 reading-shut : (d : Device) (k : ℕ) → closeOf d k .reading ≡ d .reading

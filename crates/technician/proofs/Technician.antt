@@ -18,11 +18,15 @@ use Rattle.endpoint.specs.Outcome.{refused}
 use Rattle.numbers.specs.Refusal.{clockBack}
 use Rattle.endpoint.specs.Calls.{tickedBy, tickCall}
 use Rattle.endpoint.specs.declared.Record.{Record}
 use Rattle.promise.specs.Rulebook.{opening, closing, ticking, taking, datagram}
 use Rattle.promise.specs.Calls.{HostCall, callOf}
-use Rattle.promise.specs.Technician.{Watched, stepAt, passes, Closes, lockStatus, isSilent, callsOf, allSilent, readingBy, stepBy, timeOf, thenTick, SilentCalls, OverdueCalls, Exactly, TechnicianLetIn}
-use Rattle.promise.proofs.Ticks.{device-obeys, unwatched, shutting, letting, leaving, moved}
-use Rattle.promise.proofs.Untouched.{Same, lock-kept, locked-out, half, open-call, close-call, take-call, datagram-call, deliver-call}
+use Rattle.promise.specs.Ticks.{stepAt, passes}
+use Rattle.promise.specs.Locks.{lockStatus}
+use Rattle.technician.specs.Technician.{Watched, Closes, isSilent, callsOf, allSilent, readingBy, stepBy, timeOf, thenTick, SilentCalls, OverdueCalls, Exactly, TechnicianLetIn}
+use Rattle.promise.proofs.Ticks.{device-obeys, moved}
+use Rattle.promise.proofs.Locks.{locked-out}
+use Rattle.technician.proofs.Watched.{unwatched, shutting, letting, leaving}
+use Rattle.technician.proofs.Untouched.{Same, lock-kept, half, open-call, close-call, take-call, datagram-call, deliver-call}
 
 -- connection n of e is watched with silence s, has its locks of d, and e has that reading
 record Holds (n H s last : ℕ) (d e : Device) : Type 0 where

@@ -11,23 +11,23 @@ use Rattle.frame.specs.declared.Decision.the-variants.{Undecided}
 use Rattle.area.specs.Area.{undecidedOf}
 use Rattle.mechanism.specs.Datagram.{resets}
 use Rattle.connection.specs.State.{connectionCount, closed, liveAt}
-use Rattle.objects.specs.Methods.{lockMethod, firstMute}
 use Rattle.device.specs.State.{muteCount}
 use Rattle.device.specs.Time.{stepOf}
-use Rattle.device.specs.Run.{runOf}
 use Rattle.device.specs.Closure.{Gone, Stays}
 use Rattle.device.specs.declared.Device.{Device}
 use Rattle.stream.specs.Machine.{deliver, ask}
 use Rattle.answers.specs.Numbers.{tickingNumbers}
 use Rattle.answers.specs.declared.Ticking.the-variants as tickings
 use Rattle.endpoint.specs.Outcome.{refused}
-use Rattle.numbers.specs.Refusal.{notRefused, badRecord, clockBack}
+use Rattle.numbers.specs.Refusal.{clockBack}
 use Rattle.endpoint.specs.Calls.{tickCall}
 use Rattle.endpoint.specs.Deliver.{heldAt, deliverCall}
 use Rattle.endpoint.specs.declared.Record.{Record}
 use Rattle.promise.specs.Rulebook.{opening, closing, ticking, taking, datagram, bitOf}
 use Rattle.promise.specs.Calls.{HostCall, callOf}
 use Rattle.promise.specs.Kept.{Accepted}
+use Rattle.promise.specs.Ticks.{stepAt, passes}
+use Rattle.promise.specs.Locks.{lockStatus}
 
 -- R53. Connection n of a device of eight is open, with heartbeat H above zero and that silence.
 pub record Watched (d : Device) (n H silence : ℕ) : Type 0 where
@@ -36,14 +36,6 @@ pub record Watched (d : Device) (n H silence : ℕ) : Type 0 where
   pub above : 0 < H
   pub beat : getD (d .connections) n closed .beat ≡ H
   pub silent : getD (d .connections) n closed .silence ≡ silence
-
--- R51. The step of a tick.
-abbrev pub stepAt : Record → ℕ → ℕ
-stepAt r reading = stepOf reading (r .device .reading)
-
--- R56. The tick is not refused.
-unfoldable pub passes : Record → List ℕ → ℕ → Bool
-passes r area reading = eqb (getD (tickCall r area reading .answer) 0 badRecord) notRefused
 
 -- R53. The tick closes connection n: its bit is set, nothing of the connection is left, its count is 0.
 pub record Closes (r : Record) (area : List ℕ) (reading n : ℕ) : Type 0 where
@@ -60,10 +52,6 @@ pub record Leaves (r : Record) (area : List ℕ) (reading n H silence : ℕ) : T
   pub bit : bitOf mask n ≡ false
   pub watched : Watched (tickCall r area reading .state .device) n H silence
   pub stays : Stays n (r .device) (tickCall r area reading .state .device)
-
--- R42. What connection k gets for its lock of the mute at that place.
-abbrev pub lockStatus : Device → ℕ → ℕ → ℕ
-lockStatus d k at = runOf d k (firstMute + at) lockMethod 0 [] .answer .status
 
 -- ---- calls one after another
 

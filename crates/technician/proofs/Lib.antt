@@ -1,0 +1,3 @@
+pub mod Untouched
+pub mod Watched
+pub mod Technician
