@@ -22,7 +22,7 @@ use Rattle.endpoint.specs.declared.Record.{Record}
 use Rattle.promise.specs.Rulebook.{Given, rule, open?, admit}
 use Rattle.promise.specs.Calls.{HostCall, callOf, runCalls, recordWith, areaWith, outcomeOf}
 use Rattle.promise.specs.Kept.{heldIn, Kept}
-use Rattle.promise.specs.Whole.{upTo, Turn, tells, hands, turnBy, turnOf, deviceBy, turnsOf, wholesIn, withBytes, toldIn, hostSees, EndsDeciding, AllEndDeciding, AsRules, DemandThree}
+use Rattle.promise.specs.Whole.{upTo, Turn, tells, hands, turnBy, turnOf, deviceBy, turnsOf, wholesIn, withBytes, toldIn, hostSees, EndsDeciding, AllEndDeciding, byRules, bytesWaiting, AsRules, DemandThree}
 use Rattle.promise.proofs.OpenConnections.{GoodAt, only-same}
 use Rattle.promise.proofs.Calls.{told}
 use Rattle.promise.proofs.HeldBytes.{kept-good, kept-counts, kept-area}
@@ -147,6 +147,11 @@ module _ (d : Device) (h : Held) (c : HostCall) (cs : List HostCall) where
         messages = turn-messages d turns (turned .0) m (ih .messages);
       }
 
+  good-cons : GoodAt (byRules then-device then-held cs .0) (bytesWaiting then-device then-held cs)
+      → GoodAt (byRules d h (c ∷ cs) .0) (bytesWaiting d h (c ∷ cs))
+  unfolding turnsOf
+  good-cons g = rw (turn-device d (turnsOf then-device then-held cs .0) (turned .0)) g
+
 -- THE RUN, from any good state
 pub as-rules : (d : Device) (h : Held) (calls : List HostCall) → GoodAt d h → AllBytes calls
     → AsRules d h calls (runCalls (recordWith d h) (areaWith h) calls)
@@ -161,6 +166,15 @@ as-rules d h (c ∷ cs) good b =
     let ih = as-rules (s .0 .0) (s .0 .1) cs (next d h good c (b .0)) (b .1) in
     as-cons d h c cs o (runCalls (o .state) (o .area) cs) (ap hostSees (told d h good c) ∙ w .sees) (w .messages)
     (rw (w .held, w .device, call-state d h good c (b .0), call-area d h good c (b .0)) ih)
+
+-- and the rules' device with the bytes that wait is again such a state
+pub as-good : (d : Device) (h : Held) (calls : List HostCall) → GoodAt d h → AllBytes calls → GoodAt (byRules d h calls .0) (bytesWaiting d h calls)
+unfolding AllBytes
+as-good d h [] good b = unfold turnsOf rules wholesIn in good
+as-good d h (c ∷ cs) good b =
+    let s = step rule open? admit d h c in
+    let w = one d h good c (b .0) in
+    good-cons d h c cs (rw (w .held, w .device) (as-good (s .0 .0) (s .0 .1) cs (next d h good c (b .0)) (b .1)))
 
 -- ---- from a fresh record, and from any that refusals 1 and 2 let pass
 

@@ -11,16 +11,24 @@ use lib.Seq.{take-append-seam, drop-append-seam}
 use Rattle.octets.specs.Numbers.{be32At, bytes32, Octets}
 use Rattle.octets.proofs.Digits.{be32-bytes, octets-take, octets-drop}
 use Rattle.device.specs.declared.Device.{Device}
-use Rattle.stream.specs.Machine.{deliver, ask, Held}
+use Rattle.octets.specs.Zeros.{zeros}
+use Rattle.area.specs.Area.{areaBytes}
+use Rattle.device.specs.State.{freshOf}
+use Rattle.stream.specs.Machine.{deliver, ask, Held, none-held}
+use Rattle.stream.specs.Lent.{countsOf}
 use Rattle.stream.specs.Promise.{Bytes, AllBytes}
+use Rattle.endpoint.specs.State.{freshState}
 use Rattle.endpoint.specs.declared.Record.{Record}
 use Rattle.promise.specs.Rulebook.{opening, closing, ticking, taking, datagram}
-use Rattle.promise.specs.Calls.{HostCall, recordWith, areaWith, callOf}
-use Rattle.promise.specs.Stream.{GoodState, machine, gives}
-use Rattle.promise.proofs.Stream.{stream-theorem}
-use Rattle.script.specs.Script.{stage, outputAfter, sentBy, callBy, firstSize, callIn, behind, callsFrom, callsIn, lastOutput, lastAnswer, endOf, scriptOf}
-use Rattle.answers.specs.Numbers.{numbersOf}
-use Rattle.script.specs.Chain.{FirstIs, ScriptsRun}
+use Rattle.promise.specs.Calls.{HostCall, recordWith, areaWith, callOf, runCalls}
+use Rattle.promise.specs.Kept.{heldIn, Kept}
+use Rattle.promise.specs.Whole.{hostSees, byRules, hostTold, bytesWaiting}
+use Rattle.promise.proofs.OpenConnections.{GoodAt}
+use Rattle.promise.proofs.HeldBytes.{kept-good, kept-counts, kept-area}
+use Rattle.promise.proofs.Kept.{whole-state, fresh-good, fresh-state, fresh-area}
+use Rattle.promise.proofs.Whole.{as-rules, as-good}
+use Rattle.script.specs.Script.{outputAfter, sentBy, callBy, firstSize, callIn, behind, callsFrom, callsIn, lastOutput, endOf, scriptOf}
+use Rattle.script.specs.Chain.{ruledEnd, ruledFrom, ruledCalls, ruledScript, FirstIs, ScriptsRun}
 use Rattle.script.proofs.Stages.{is-sent, is-datagram, is-deliver}
 
 call-bytes : (s output : List ℕ) → Octets s → Bytes (callIn s output)
@@ -43,13 +51,13 @@ unfolding callsFrom AllBytes behind
 calls-bytes zero r area s output o = tt
 calls-bytes (suc k) r area s output o =
     go (ltb (length s) 6)
-    (calls-bytes k (callOf r area c .state) (callOf r area c .area) (behind s) (outputAfter c (callOf r area c) output) (octets-drop (firstSize s) s o))
+    (calls-bytes k (callOf r area c .state) (callOf r area c .area) (behind s) (outputAfter c (hostSees (callOf r area c)) output) (octets-drop (firstSize s) s o))
   where
     c : HostCall
     c = callIn s output
 
     cs : List HostCall
-    cs = callsFrom k (callOf r area c .state) (callOf r area c .area) (behind s) (outputAfter c (callOf r area c) output)
+    cs = callsFrom k (callOf r area c .state) (callOf r area c .area) (behind s) (outputAfter c (hostSees (callOf r area c)) output)
 
     go : (b : Bool) → AllBytes cs → AllBytes (cond b [] (c ∷ cs))
     go true rest = tt
@@ -59,17 +67,52 @@ pieces-bytes : (r : Record) (area s output : List ℕ) → Octets s → AllBytes
 unfolding callsIn
 pieces-bytes r area s output o = calls-bytes (length s) r area s output o
 
-chained : (d : Device) (h : Held) (s output : List ℕ) → GoodState d h → Octets s
-    → let cs = callsIn (recordWith d h) (areaWith h) s output in
-    let end = machine d h cs .0 in
-    scriptOf (recordWith d h) (areaWith h) s output
-    ≡ stage (recordWith (end .0) (end .1)) (areaWith (end .1)) (lastOutput output cs (gives d h cs))
-    (lastAnswer (numbersOf []) (gives d h cs))
-unfolding scriptOf endOf
-chained d h s output g o =
+-- the calls are those by the rules
+calls-ruled : (k : ℕ) (d : Device) (h : Held) (s output : List ℕ) → GoodAt d h → Octets s
+    → callsFrom k (recordWith d h) (areaWith h) s output ≡ ruledFrom k d h s output
+unfolding callsFrom ruledFrom behind runCalls AllBytes lastOutput
+calls-ruled zero d h s output good o = refl
+calls-ruled (suc k) d h s output good o =
+    let c = callIn s output in
+    let one = c ∷ [] in
+    let b : AllBytes one = (call-bytes s output o, tt) in
+    let w = as-rules d h one good b in
+    let seen = callOf (recordWith d h) (areaWith h) c in
+    let lent : outputAfter c (hostSees seen) output ≡ lastOutput output one (hostTold d h one) = ap (lastOutput output one) (w .sees) in
+    let ih = calls-ruled k (byRules d h one .0) (bytesWaiting d h one) (behind s) (lastOutput output one (hostTold d h one)) (as-good d h one good b) (octets-drop (firstSize s) s o) in
+    let same : callsFrom k (seen .state) (seen .area) (behind s) (outputAfter c (hostSees seen) output)
+    ≡ ruledFrom k (byRules d h one .0) (bytesWaiting d h one) (behind s) (lastOutput output one (hostTold d h one)) =
+    rw (w .state, w .area, lent) ih in
+    ap (λ (cs : List HostCall). cond (ltb (length s) 6) [] (c ∷ cs)) same
+
+chained : (d : Device) (h : Held) (s output : List ℕ) → GoodAt d h → Octets s
+    → scriptOf (recordWith d h) (areaWith h) s output ≡ ruledScript d h s output
+unfolding scriptOf callsIn endOf ruledEnd
+chained d h s output good o =
     let r = recordWith d h in
-    let cs = callsIn r (areaWith h) s output in
-    rw (stream-theorem .real d h cs g (pieces-bytes r (areaWith h) s output o)) refl
+    let same = calls-ruled (length s) d h s output good o in
+    let b : AllBytes (ruledCalls d h s output) = rw same at (calls-bytes (length s) r (areaWith h) s output o) in
+    let w = as-rules d h (ruledCalls d h s output) good b in
+    rw (same, w .state, w .area, w .sees) refl
+
+script-fresh : (reading : ℕ) (s output : List ℕ) → Octets s
+    → scriptOf (freshState reading) (zeros areaBytes) s output ≡ ruledScript (freshOf reading) none-held s output
+script-fresh reading s output o = rw (fresh-state reading, fresh-area) (chained (freshOf reading) none-held s output (fresh-good reading) o)
+
+module _ (r : Record) (area s output : List ℕ) (w : Kept r area) (o : Octets s) where
+  record-again : recordWith (r .device) (heldIn r area) ≡ r
+  record-again = whole-state r (countsOf (heldIn r area) 8) (kept-counts r area w)
+
+  script-later : scriptOf r area s output ≡ ruledScript (r .device) (heldIn r area) s output
+  script-later =
+      let q = chained (r .device) (heldIn r area) s output (kept-good r area w) o in
+      rw (record-again, kept-area r area w) at q
+
+  calls-later : callsIn r area s output ≡ ruledCalls (r .device) (heldIn r area) s output
+  unfolding callsIn
+  calls-later =
+      let q = calls-ruled (length s) (r .device) (heldIn r area) s output (kept-good r area w) o in
+      rw (record-again, kept-area r area w) at q
 
 value-read : (kind n value : ℕ) (more : List ℕ) → value < 4294967296 → be32At (kind ∷ n ∷ (bytes32 value ++ more)) 2 ≡ value
 unfolding be32At bytes32
@@ -124,4 +167,4 @@ delivered kind n piece more output k v =
     record { call = w .call ∙ is-deliver kind n piece output (omega arith); rest = w .rest }
 
 pub scripts-run : ScriptsRun
-scripts-run = record { chain = chained; pieces = pieces-bytes; asks = asked; datagrams = a-datagram; deliveries = delivered }
+scripts-run = record { fresh = script-fresh; later = script-later; calls = calls-later; pieces = pieces-bytes; asks = asked; datagrams = a-datagram; deliveries = delivered }

@@ -1,18 +1,49 @@
 -- R81, R82. What a script's calls leave is what the rules over whole messages give.
-use Prim.Native.Nat.{ℕ, _^_, _≤_, _<_}
+use Prim.Native.Nat.{ℕ, zero, suc, _^_, _≤_, _<_}
 use mathlib.Core.Path.{_≡_}
+use mathlib.Core.Bool.{cond}
 use mathlib.Core.List.{List, [], _∷_, _++_}
+use lib.Dec.{ltb}
 use lib.ListN.{length}
 use Rattle.octets.specs.Numbers.{bytes32, Octets}
+use Rattle.octets.specs.Zeros.{zeros}
+use Rattle.area.specs.Area.{areaBytes}
+use Rattle.device.specs.State.{freshOf}
 use Rattle.device.specs.declared.Device.{Device}
-use Rattle.stream.specs.Machine.{Held, deliver, ask}
+use Rattle.stream.specs.Machine.{deliver, ask, Held, none-held}
 use Rattle.stream.specs.Promise.{AllBytes}
+use Rattle.endpoint.specs.State.{freshState}
 use Rattle.endpoint.specs.declared.Record.{Record}
 use Rattle.promise.specs.Rulebook.{datagram}
 use Rattle.promise.specs.Calls.{HostCall, recordWith, areaWith}
-use Rattle.promise.specs.Stream.{GoodState, machine, gives}
+use Rattle.promise.specs.Kept.{heldIn, Kept}
+use Rattle.promise.specs.Whole.{byRules, hostTold, bytesWaiting}
 use Rattle.answers.specs.Numbers.{numbersOf}
-use Rattle.script.specs.Script.{stage, callTake, callDatagram, callBy, callIn, behind, callsIn, lastOutput, lastAnswer, scriptOf}
+use Rattle.script.specs.Script.{Stage, stage, callTake, callDatagram, callHead, callBy, callIn, behind}
+use Rattle.script.specs.Script.{callsIn, lastOutput, lastAnswer, scriptOf}
+
+-- R82. How the rules over whole messages end these calls, from device d with the bytes h waiting: the rules' device, the bytes that
+-- wait, and the last output and answer that the host is told.
+unfoldable pub ruledEnd : Device → Held → List HostCall → List ℕ → Stage
+ruledEnd d h calls output =
+    stage (recordWith (byRules d h calls .0) (bytesWaiting d h calls)) (areaWith (bytesWaiting d h calls))
+    (lastOutput output calls (hostTold d h calls)) (lastAnswer (numbersOf []) (hostTold d h calls))
+
+-- R82. A script's calls, at most so many, each lent the output as the rules left it, from device d with the bytes h waiting.
+unfoldable pub ruledFrom : ℕ → Device → Held → List ℕ → List ℕ → List HostCall
+ruledFrom zero d h s output = []
+ruledFrom (suc k) d h s output =
+    let one = callIn s output ∷ [] in
+    cond (ltb (length s) callHead) []
+    (callIn s output ∷ ruledFrom k (byRules d h one .0) (bytesWaiting d h one) (behind s) (lastOutput output one (hostTold d h one)))
+
+-- R82. All of them.
+abbrev pub ruledCalls : Device → Held → List ℕ → List ℕ → List HostCall
+ruledCalls d h s output = ruledFrom (length s) d h s output
+
+-- R82. THE SCRIPT BY THE RULES: how the rules over whole messages end it.
+abbrev pub ruledScript : Device → Held → List ℕ → List ℕ → Stage
+ruledScript d h s output = ruledEnd d h (ruledCalls d h s output) output
 
 -- R82. The first call of a script, lent this output, is c, and more lies behind it.
 pub record FirstIs (s output : List ℕ) (c : HostCall) (more : List ℕ) : Type 0 where
@@ -21,15 +52,15 @@ pub record FirstIs (s output : List ℕ) (c : HostCall) (more : List ℕ) : Type
 
 -- Theorem. What the code leaves of a script is what the rules over whole messages give; every call can be written.
 pub record ScriptsRun : Type 0 where
-  -- what the code leaves of a script, from a state that keeps the rules: the device of the rules over whole messages, the undecided
-  -- bytes, and the last answer and output that the rules give
-  pub chain : (d : Device) (h : Held) (s output : List ℕ) → GoodState d h → Octets s
-      → let cs = callsIn (recordWith d h) (areaWith h) s output in
-      let end = machine d h cs .0 in
-      scriptOf (recordWith d h) (areaWith h) s output
-      ≡ stage (recordWith (end .0) (end .1)) (areaWith (end .1)) (lastOutput output cs (gives d h cs))
-      (lastAnswer (numbersOf []) (gives d h cs))
-  -- those calls' pieces are bytes, so all that the stream theorem says of calls it says of them
+  -- what the code leaves of a script, from a fresh record and a zeroed area: as the rules over whole messages end it
+  pub fresh : (reading : ℕ) (s output : List ℕ) → Octets s
+      → scriptOf (freshState reading) (zeros areaBytes) s output ≡ ruledScript (freshOf reading) none-held s output
+  -- and so from any record and area to which refusals 1 and 2 do not apply
+  pub later : (r : Record) (area s output : List ℕ) → Kept r area → Octets s
+      → scriptOf r area s output ≡ ruledScript (r .device) (heldIn r area) s output
+  -- the calls that the code makes are those, and their pieces are bytes, so all that DemandThree says of calls it says of them
+  pub calls : (r : Record) (area s output : List ℕ) → Kept r area → Octets s
+      → callsIn r area s output ≡ ruledCalls (r .device) (heldIn r area) s output
   pub pieces : (r : Record) (area s output : List ℕ) → Octets s → AllBytes (callsIn r area s output)
   -- every call can be written: an opening, a closing, a reading or a taking in six bytes
   pub asks : (kind n value : ℕ) (more output : List ℕ) → kind ≤ callTake → value < 2 ^ 32

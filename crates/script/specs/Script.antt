@@ -1,15 +1,15 @@
 -- R82. A script of calls in bytes, run on one record, one area and one output.
 use Prim.Native.Nat.{ℕ, zero, suc, _+_, _-_}
 use mathlib.Core.Bool.{cond}
-use mathlib.Core.List.{List, [], _∷_}
+use mathlib.Core.List.{List, [], _∷_, map}
 use lib.ListN.{length, getD, take, drop}
 use lib.Dec.{eqb, ltb, leb}
 use Rattle.octets.specs.Numbers.{be32At}
 use Rattle.stream.specs.Machine.{deliver, ask}
-use Rattle.endpoint.specs.Outcome.{Outcome}
 use Rattle.endpoint.specs.declared.Record.{Record}
-use Rattle.promise.specs.Rulebook.{opening, closing, ticking, taking, datagram}
+use Rattle.promise.specs.Rulebook.{opening, closing, ticking, taking, datagram, Given}
 use Rattle.promise.specs.Calls.{HostCall, callOf, runCalls}
+use Rattle.promise.specs.Whole.{hostSees}
 use Rattle.answers.specs.Numbers.{numbersOf}
 use Rattle.answers.specs.declared.Numbers.{Numbers}
 
@@ -25,7 +25,7 @@ abbrev pub stage : Record → List ℕ → List ℕ → Numbers → Stage
 stage state area output answer = record { state = state; area = area; output = output; answer = answer }
 
 -- R82. The output once a call is made, which is lent to deliveries and takings alone.
-unfoldable pub outputAfter : HostCall → Outcome → List ℕ → List ℕ
+unfoldable pub outputAfter : HostCall → Given → List ℕ → List ℕ
 outputAfter (deliver n piece x) o output = o .output
 outputAfter (ask opening) o output = output
 outputAfter (ask (closing n)) o output = output
@@ -36,7 +36,8 @@ outputAfter (ask (datagram g)) o output = output
 -- R82. How the script stands once a call is made.
 unfoldable pub stageOf : HostCall → Record → List ℕ → List ℕ → Stage
 stageOf c r area output =
-    stage (callOf r area c .state) (callOf r area c .area) (outputAfter c (callOf r area c) output) (numbersOf (callOf r area c .answer))
+    let o = callOf r area c in
+    stage (o .state) (o .area) (outputAfter c (hostSees o) output) (numbersOf (o .answer))
 
 -- ---- how calls are written: a kind, a connection's number, a number of 32 bits, and the piece of a datagram or a delivery
 
@@ -97,20 +98,20 @@ callsFrom zero r area s output = []
 callsFrom (suc k) r area s output =
     cond (ltb (length s) callHead) []
     (callIn s output ∷ callsFrom k (callOf r area (callIn s output) .state) (callOf r area (callIn s output) .area) (behind s)
-    (outputAfter (callIn s output) (callOf r area (callIn s output)) output))
+    (outputAfter (callIn s output) (hostSees (callOf r area (callIn s output))) output))
 
 -- R82. All of them: each has a byte at least.
 unfoldable pub callsIn : Record → List ℕ → List ℕ → List ℕ → List HostCall
 callsIn r area s output = callsFrom (length s) r area s output
 
 -- R82. The output that a run leaves.
-unfoldable pub lastOutput : List ℕ → List HostCall → List Outcome → List ℕ
+unfoldable pub lastOutput : List ℕ → List HostCall → List Given → List ℕ
 lastOutput output [] os = output
 lastOutput output (c ∷ cs) [] = output
 lastOutput output (c ∷ cs) (o ∷ os) = lastOutput (outputAfter c o output) cs os
 
 -- R82. The answer that a run leaves.
-unfoldable pub lastAnswer : Numbers → List Outcome → Numbers
+unfoldable pub lastAnswer : Numbers → List Given → Numbers
 lastAnswer a [] = a
 lastAnswer a (o ∷ os) = lastAnswer (numbersOf (o .answer)) os
 
@@ -118,7 +119,7 @@ lastAnswer a (o ∷ os) = lastAnswer (numbersOf (o .answer)) os
 unfoldable pub endOf : List HostCall → Record → List ℕ → List ℕ → Numbers → Stage
 endOf cs r area output a =
     let t = runCalls r area cs in
-    stage (t .0 .0) (t .0 .1) (lastOutput output cs (t .1)) (lastAnswer a (t .1))
+    stage (t .0 .0) (t .0 .1) (lastOutput output cs (map hostSees (t .1))) (lastAnswer a (map hostSees (t .1)))
 
 -- R82. THE SCRIPT: the run of its calls.
 unfoldable pub scriptOf : Record → List ℕ → List ℕ → List ℕ → Stage
