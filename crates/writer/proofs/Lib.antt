@@ -3,5 +3,5 @@ pub mod Outcomes
 pub mod Walks
 pub mod Heads
 pub mod Readings
-pub mod Again
+pub mod Runs
 pub mod Results

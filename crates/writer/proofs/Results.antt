@@ -23,10 +23,10 @@ use Rattle.writer.specs.declared.Written.{Written}
 use Rattle.writer.specs.declared.Written.the-variants.{Length, NoRoom, Fault, TooLong, BadEntry}
 use Rattle.writer.specs.Numbers.{writtenNumbers, Writing, writing}
 use Rattle.layout.specs.Message.{sizeOf, message, beatBytes}
-use Rattle.writer.specs.Write.{leastRoom, unwritten, written, offered, appendSound, appendBy, appendOf, beatFits}
-use Rattle.writer.specs.Round.{Made, ReadAfterWrite, WriteAfterRead, OneResult}
-use Rattle.writer.proofs.Readings.{start-reads, append-reads, made-reads, beat-reads, beat-taken, sound-reads}
-use Rattle.writer.proofs.Again.{entries-again, keep-again, made-bytes}
+use Rattle.writer.specs.Write.{leastRoom, unwritten, written, offered, startOf, appendSound, appendBy, appendOf, beatFits, keepAliveOf}
+use Rattle.writer.specs.Round.{Made, ReadAfterWrite, OneResult}
+use Rattle.writer.proofs.Readings.{start-reads, append-reads, made-reads, beat-reads, beat-taken}
+use Rattle.writer.proofs.Runs.{made-bytes}
 
 pub read-after-write : ReadAfterWrite
 unfolding beatFits beatBytes bytes16 bytes32
@@ -44,9 +44,6 @@ read-after-write =
         beat-taken buf millisecondsForm greatestMilliseconds room refl (omega arith),
       );
     }
-
-pub write-after-read : WriteAfterRead
-write-after-read = record { reads = sound-reads; entries = entries-again; beat = keep-again }
 
 -- an answer made again from its numbers
 writtenBack : List ℕ → Written
@@ -102,4 +99,12 @@ append-room buf kind e h = go (ltb (length buf) leastRoom) refl (decide buf) ref
     go false q (Sound m) s h = absurd (sound-room m buf kind e h)
 
 pub one-results : OneResult
-one-results = record { numbers = written-tells; results = one-result; runs = one-run; room = append-room }
+one-results =
+    record {
+      numbers = written-tells;
+      start = λ buf kind e. one-result (startOf buf kind e);
+      append = λ buf kind e. one-result (appendOf buf kind e);
+      beat = λ buf form value. one-result (keepAliveOf buf form value);
+      runs = one-run;
+      room = append-room;
+    }

@@ -1,24 +1,21 @@
--- What is written is read as it was given, and what was read is written again as it was: R19 to R27 together.
+-- What is written is read as it was given, and one result is allowed: R19 to R27 together.
 use Prim.Native.Nat.{ℕ, zero, suc, _+_, _≤_, _<_}
 use mathlib.Core.Path.{_≡_}
 use mathlib.Core.List.{List, [], _∷_, _++_}
-use lib.ListN.{length, getD, take, drop}
+use lib.ListN.{length, getD, drop}
 use Rattle.laws.specs.Lists.{joined}
-use Rattle.octets.specs.Numbers.{Octets}
 use Rattle.heartbeat.specs.Beat.{secondsForm, millisecondsForm, greatestSeconds, greatestMilliseconds}
-use Rattle.frame.specs.Limits.{headerEnd, response, keepAlive}
+use Rattle.frame.specs.Limits.{headerEnd, keepAlive}
 use Rattle.frame.specs.Header.{pduType, messageCount}
 use Rattle.frame.specs.Entry.{entrySize}
-use Rattle.frame.specs.Decide.{decide}
-use Rattle.frame.specs.declared.Decision.the-variants.{Sound}
 use Rattle.fields.specs.Place.{entryBytes, parametersOf}
 use Rattle.numbers.specs.Refusal.{noEntry, notRefused, noRoom}
 use Rattle.reader.specs.Read.{dataOf, readOf}
 use Rattle.reader.specs.Entry.{fieldsOf, entryAt, entryOf, partOf}
 use Rattle.writer.specs.declared.Written.{Written}
-use Rattle.writer.specs.Numbers.{writtenNumbers, Writing, writing}
+use Rattle.writer.specs.Numbers.{writtenNumbers}
 use Rattle.layout.specs.Message.{message, atFront}
-use Rattle.writer.specs.Write.{leastRoom, written, startOf, appendOf, keepAliveOf}
+use Rattle.writer.specs.Write.{leastRoom, startOf, appendOf, keepAliveOf, Starts, Appends, WritesKeepAlive}
 
 -- R25, R26. A start and appends into buf, none refused, with the entries es: the last answers n and leaves that buffer.
 pub data Made (buf : List ℕ) (kind : ℕ) : List (List ℕ) → ℕ → List ℕ → Type 0 where
@@ -66,19 +63,16 @@ pub record ReadAfterWrite : Type 0 where
       × (readOf (keepAliveOf buf millisecondsForm greatestMilliseconds .buffer)
       ≡ notRefused ∷ 14 ∷ keepAlive ∷ 1 ∷ millisecondsForm ∷ greatestMilliseconds ∷ [])
 
--- Theorem. What was read is written again as the same bytes, into any buffer that has room.
-pub record WriteAfterRead : Type 0 where
-  pub reads : (s : List ℕ) (n : ℕ) → decide s ≡ Sound n → pduType s ≤ response → ReadsAs s n (pduType s) (entriesIn s n)
-  pub entries : (s buf : List ℕ) (n : ℕ) → Octets s → leastRoom ≤ length buf → decide s ≡ Sound n → pduType s ≤ response
-      → Made buf (pduType s) (entriesIn s n) n (atFront (take n s) buf)
-  pub beat : (s buf : List ℕ) (n form value : ℕ) → Octets s → leastRoom ≤ length buf
-      → readOf s ≡ notRefused ∷ n ∷ keepAlive ∷ 1 ∷ form ∷ value ∷ []
-      → keepAliveOf buf form value ≡ written (take n s) buf
+-- R68. A promise over an answer and the buffer after it allows one of each.
+abbrev pub AllowsOne : (Written → List ℕ → Type 0) → Type 0
+AllowsOne promise = (a b : Written) (s t : List ℕ) → promise a s → promise b t → (a ≡ b) × (s ≡ t)
 
--- Theorem. Two results that a promise of the writer allows are equal; append refuses by 4 only for a short buffer.
+-- Theorem. Each call's promise allows one answer and one buffer, to the last byte.
 pub record OneResult : Type 0 where
   pub numbers : (a b : Written) → writtenNumbers a ≡ writtenNumbers b → a ≡ b
-  pub results : (o : Writing) (a b : Written) (s t : List ℕ) → writing a s ≡ o → writing b t ≡ o → (a ≡ b) × (s ≡ t)
+  pub start : (buf : List ℕ) (kind : ℕ) (e : List ℕ) → AllowsOne (Starts buf kind e)
+  pub append : (buf : List ℕ) (kind : ℕ) (e : List ℕ) → AllowsOne (Appends buf kind e)
+  pub beat : (buf : List ℕ) (form value : ℕ) → AllowsOne (WritesKeepAlive buf form value)
   pub runs : (buf : List ℕ) (kind : ℕ) (es : List (List ℕ)) (m n : ℕ) (s t : List ℕ) → Made buf kind es m s → Made buf kind es n t
       → (m ≡ n) × (s ≡ t)
   -- 2,049 bytes always decide: append refuses by 4 only where the buffer is under 2,049

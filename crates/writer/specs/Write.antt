@@ -1,5 +1,6 @@
 -- R24 to R27. The writer's three calls.
 use Prim.Native.Nat.{ℕ, _+_}
+use mathlib.Core.Path.{_≡_}
 use mathlib.Core.List.{List, [], _∷_, _++_}
 use mathlib.Core.Bool.{Bool, cond, _&&_}
 use lib.ListN.{length}
@@ -13,7 +14,8 @@ use Rattle.frame.specs.declared.Decision.{Decision}
 use Rattle.frame.specs.declared.Decision.the-variants.{Undecided, Faulty, Sound}
 use Rattle.numbers.specs.Refusal.{fault, notRefused, noRoom, tooLong, badEntry}
 use Rattle.reader.specs.Read.{dataOf}
-use Rattle.writer.specs.Numbers.{Writing}
+use Rattle.writer.specs.declared.Written.{Written}
+use Rattle.writer.specs.Numbers.{Writing, writing}
 use Rattle.layout.specs.Message.{sizeOf, message, atFront, beatBytes}
 
 -- R63. The least buffer of the writer: the longest message.
@@ -65,3 +67,15 @@ unfoldable pub keepAliveOf : List ℕ → ℕ → ℕ → Writing
 keepAliveOf buf form value =
     cond (ltb (length buf) leastRoom) (unwritten noRoom buf)
     (cond (beatFits form value) (written (message keepAlive 1 (beatBytes form value)) buf) (unwritten badEntry buf))
+
+-- R25, R68. What start promises: answer r, and after in the buffer.
+abbrev pub Starts : List ℕ → ℕ → List ℕ → Written → List ℕ → Type 0
+Starts buf kind e r after = writing r after ≡ startOf buf kind e
+
+-- R26, R68. What append promises.
+abbrev pub Appends : List ℕ → ℕ → List ℕ → Written → List ℕ → Type 0
+Appends buf kind e r after = writing r after ≡ appendOf buf kind e
+
+-- R27, R68. What keep-alive promises.
+abbrev pub WritesKeepAlive : List ℕ → ℕ → ℕ → Written → List ℕ → Type 0
+WritesKeepAlive buf form value r after = writing r after ≡ keepAliveOf buf form value

@@ -10,8 +10,8 @@ ghost use Rattle.frame.specs.declared.Decision.the-variants.{Sound};
 ghost use Rattle.reader.specs.Read.{dataOf};
 ghost use Rattle.writer.specs.Numbers.{writing};
 ghost use Rattle.layout.specs.Message.{sizeOf, message, atFront};
-ghost use Rattle.writer.specs.Round.{ReadAfterWrite, WriteAfterRead, OneResult};
-ghost use Rattle.writer.specs.Write.{leastRoom, startOf, appendSound, appendOf, keepAliveOf};
+ghost use Rattle.writer.specs.Round.{ReadAfterWrite, OneResult};
+ghost use Rattle.writer.specs.Write.{leastRoom, appendSound, Starts, Appends, WritesKeepAlive};
 
 // Room for the longest message.
 pub const ROOM: usize = frame::LONGEST_MESSAGE;
@@ -39,7 +39,7 @@ fn put_message(buf: &mut [u8], kind: u8, e: &[u8])
 
 // R25. A message of one entry.
 pub fn start(buf: &mut [u8], kind: u8, e: &[u8]) -> Written
-    ensures { λ r. ⌜ writing r (now (buf .exit)) ≡ startOf (now (buf .entry)) kind (now (e .entry)) ⌝ }
+    ensures { λ r. ⌜ Starts (now (buf .entry)) kind (now (e .entry)) r (now (buf .exit)) ⌝ }
 {
     if buf.len() < ROOM {
         return Written::NoRoom;
@@ -50,8 +50,9 @@ pub fn start(buf: &mut [u8], kind: u8, e: &[u8]) -> Written
     if ROOM - frame::HEADER_END < e.len() {
         return Written::TooLong;
     }
+    let length = e.len() + frame::HEADER_END;
     put_message(buf, kind, e);
-    Written::Length(e.len() + frame::HEADER_END)
+    Written::Length(length)
 }
 
 // The message of n bytes, with one entry more: only its header and the bytes behind it are written.
@@ -62,7 +63,8 @@ fn put_more(buf: &mut [u8], n: usize, kind: u8, e: &[u8])
         (now (buf .entry)) ⌝ }
 {
     let count = octets::be16(&buf[0..], frame::places::MESSAGE_COUNT);
-    layout::put_head(buf, kind, count + 1, (n + e.len() - 1) as u32);
+    let end = n + e.len();
+    layout::put_head(buf, kind, count + 1, (end - 1) as u32);
     octets::copy(e, buf, n);
 }
 
@@ -73,19 +75,21 @@ fn append_sound(buf: &mut [u8], n: usize, kind: u8, e: &[u8]) -> Written
     if kind != buf[frame::places::TYPE] {
         return Written::BadEntry;
     }
-    if !frame::well_formed(kind, e) {
+    let well = frame::well_formed(kind, e);
+    if !well {
         return Written::BadEntry;
     }
     if ROOM - n < e.len() {
         return Written::TooLong;
     }
+    let end = n + e.len();
     put_more(buf, n, kind, e);
-    Written::Length(n + e.len())
+    Written::Length(end)
 }
 
 // Appends an entry to the sound message at the buffer's front.
 pub fn append(buf: &mut [u8], kind: u8, e: &[u8]) -> Written
-    ensures { λ r. ⌜ writing r (now (buf .exit)) ≡ appendOf (now (buf .entry)) kind (now (e .entry)) ⌝ }
+    ensures { λ r. ⌜ Appends (now (buf .entry)) kind (now (e .entry)) r (now (buf .exit)) ⌝ }
 {
     if buf.len() < ROOM {
         return Written::NoRoom;
@@ -100,7 +104,7 @@ pub fn append(buf: &mut [u8], kind: u8, e: &[u8]) -> Written
 
 // R27. A keep-alive of that form, with a value in its unit.
 pub fn keep_alive(buf: &mut [u8], form: u8, value: u32) -> Written
-    ensures { λ r. ⌜ writing r (now (buf .exit)) ≡ keepAliveOf (now (buf .entry)) form value ⌝ }
+    ensures { λ r. ⌜ WritesKeepAlive (now (buf .entry)) form value r (now (buf .exit)) ⌝ }
 {
     if buf.len() < ROOM {
         return Written::NoRoom;
@@ -122,11 +126,6 @@ pub fn keep_alive(buf: &mut [u8], form: u8, value: u32) -> Written
 // What start, append and keep_alive write is read as it was given.
 pub fn read_after_write()
     ensures { λ r. ⌜ ReadAfterWrite ⌝ }
-{}
-
-// Every sound message, written again from what was read, is the same bytes.
-pub fn write_after_read()
-    ensures { λ r. ⌜ WriteAfterRead ⌝ }
 {}
 
 // Two results that a promise of the writer allows are equal.

@@ -1,5 +1,6 @@
 use mathlib.Core.Path.{sym, _∙_}
 use native.Mathlib.Omega.{arith}
+use Rattle.laws.proofs.Conds.{and-left}
 use borrow.Author.Tests.{not-true, not-false}
 use Rattle.writer.proofs.Outcomes.{sound-bounds, sound-few, well-kind, append-other, append-bad, append-long, append-done}
 use borrow.Author.Needs.{needs}
@@ -21,7 +22,7 @@ returns-2 : tie.Need-returns-2
 returns-2 c =
     let a = c .before .before .before .before .before .before .args in
     let w = c .before .well-formed in
-    append-bad (a .buf .now) (a .kind) (a .e .now) (a .n) (c .before .before .if1 .left) (sym (w .ensures) ∙ not-true (w .result) (c .if2 .taken))
+    append-bad (a .buf .now) (a .kind) (a .e .now) (a .n) (c .before .before .if1 .left) (sym (w .ensures) ∙ not-true (w .result) (search and-left))
 
 sub-if3 : tie.Need-sub-if3
 sub-if3 c =
@@ -33,21 +34,21 @@ returns-3 c =
     let s = c .before .before .before .before .before .before .before in
     let a = s .args in
     let w = c .before .before .well-formed in
-    append-long (a .buf .now) (a .kind) (a .e .now) (a .n) (c .before .before .before .if1 .left) (sym (w .ensures) ∙ not-false (w .result) (c .before .if2 .left)) (s .pre .1) (omega arith)
+    append-long (a .buf .now) (a .kind) (a .e .now) (a .n) (c .before .before .before .if1 .left) (sym (w .ensures) ∙ not-false (w .result) (search needs)) (s .pre .1) (omega arith)
+
+add-end : tie.Need-add-end
+add-end c = search needs
 
 put-more-requires : tie.Need-put-more-requires
 put-more-requires c κs =
     let s = c .before .before .before .before .before .before .before .before in
     let a = s .args in
     let w = c .before .before .before .well-formed in
-    let k = well-kind (a .kind) (a .e .now) (sym (w .ensures) ∙ not-false (w .result) (c .before .before .if2 .left)) in
+    let k = well-kind (a .kind) (a .e .now) (sym (w .ensures) ∙ not-false (w .result) (search needs)) in
     let b = sound-bounds (a .buf .now) (a .n) (s .pre .1) in
     let h = c .before .before .before .before .if1 .left in
     let few = sound-few (a .buf .now) (a .n) (s .pre .1) (omega arith) in
     omega arith
-
-add-t10 : tie.Need-add-t10
-add-t10 c = search needs
 
 same-length : tie.Need-same-length
 same-length c = search needs
@@ -58,7 +59,7 @@ returns-4 c =
     let a = s .args in
     let w = c .before .before .before .before .before .before .well-formed in
     let b = sound-bounds (a .buf .now) (a .n) (s .pre .1) in
-    append-done (a .buf .now) (a .kind) (a .e .now) (a .n) (c .before .before .before .before .before .before .before .if1 .left) (sym (w .ensures) ∙ not-false (w .result) (c .before .before .before .before .before .if2 .left)) (s .pre .1) (omega arith) (c .before .before .put-more .last .0) (c .before .before .put-more .ensures)
+    append-done (a .buf .now) (a .kind) (a .e .now) (a .n) (c .before .before .before .before .before .before .before .if1 .left) (sym (w .ensures) ∙ not-false (w .result) (search needs)) (s .pre .1) (omega arith) (c .before .before .put-more .last .0) (c .before .before .put-more .ensures)
 
 pub append-sound-spec : {M : Type 1} → statement M
 append-sound-spec =
@@ -70,7 +71,7 @@ append-sound-spec =
     returns-2
     sub-if3
     returns-3
+    add-end
     put-more-requires
-    add-t10
     same-length
     returns-4)

@@ -19,14 +19,14 @@ part-be16-end c = search needs
 be16-requires : tie.Need-be16-requires
 be16-requires c κs = search needs
 
+add-end : tie.Need-add-end
+add-end c = search needs
+
 add-put-head : tie.Need-add-put-head
 add-put-head c =
     let s = c .before .before .before .before .before .before .args .buf .now in
     let b : c .before .be16 .result ≡ messageCount s = cc (rest 0 s) in
     omega arith
-
-add-put-head-2 : tie.Need-add-put-head-2
-add-put-head-2 c = search needs
 
 sub-put-head : tie.Need-sub-put-head
 sub-put-head c = search needs
@@ -58,8 +58,8 @@ put-more-spec =
     part-be16-start
     part-be16-end
     be16-requires
+    add-end
     add-put-head
-    add-put-head-2
     sub-put-head
     cast-put-head
     put-head-requires

@@ -29,11 +29,11 @@ returns-3 c =
     let w = c .before .before .well-formed in
     start-long (a .buf .now) (a .kind) (a .e .now) (omega arith) (sym (w .ensures) ∙ not-false (w .result) (c .before .if2 .left)) (omega arith)
 
+add-length : tie.Need-add-length
+add-length c = search needs
+
 put-message-requires : tie.Need-put-message-requires
 put-message-requires c κs = search needs
-
-add-t7 : tie.Need-add-t7
-add-t7 c = search needs
 
 same-length : tie.Need-same-length
 same-length c = search needs
@@ -53,7 +53,7 @@ start-spec =
     returns-2
     sub-if3
     returns-3
+    add-length
     put-message-requires
-    add-t7
     same-length
     returns-4)

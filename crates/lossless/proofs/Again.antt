@@ -7,9 +7,8 @@ use native.Mathlib.Omega.{arith}
 use native.Mathlib.Nat.{add-zero, not-suc-le-zero}
 use lib.Dec.{eqb}
 use lib.ListN.{length, take, drop, length-append, take-append-drop}
-use lib.Seq.{drop-append-add, drop-drop, length-front, take-all, length-take-le}
+use lib.Seq.{length-front, take-all, length-take-le}
 use borrow.Author.Tests.{eq-eqb, ne-eqb, le-ltb, eqb-true, eqb-false, le-leb}
-use Rattle.laws.specs.Lists.{joined}
 use Rattle.laws.proofs.Conds.{cond-left, cond-right}
 use Rattle.laws.proofs.Parts.{nil-of}
 use Rattle.octets.specs.Numbers.{be16At, be32At, bytes16, bytes32, Octets}
@@ -30,34 +29,23 @@ use Rattle.fields.specs.Fields.{heartbeatOf}
 use Rattle.reader.specs.Numbers.{heartbeatNumbers}
 use Rattle.reader.specs.Read.{dataOf, messageOf, readBy, readOf}
 use Rattle.reader.proofs.Sounds.{keep-data}
-use Rattle.numbers.specs.Refusal.{notRefused}
 use Rattle.writer.specs.Numbers.{Writing, writtenNumbers}
 use Rattle.layout.specs.Message.{sizeOf, message, atFront, beatBytes}
 use Rattle.writer.specs.Write.{leastRoom, written, startOf, appendOf, beatFits, keepAliveOf}
 use Rattle.writer.specs.Round.{Made, started, appended, entriesOf, entriesIn}
 use Rattle.layout.proofs.Messages.{length-message}
 use Rattle.writer.proofs.Messages.{length-data}
-use Rattle.writer.proofs.Outcomes.{well-kind, sound-bounds, sound-entries, start-done, append-done, append-sound, beat-good}
+use Rattle.writer.proofs.Outcomes.{sound-bounds, sound-entries, start-done, append-done, append-sound, beat-good}
 use Rattle.writer.proofs.Walks.{one-alone}
-use Rattle.writer.proofs.Heads.{Holds, sound-message}
-use Rattle.writer.proofs.Readings.{front-entries, grown-list, start-way, append-way}
-
--- a longer message over a shorter one
-front-twice : (m l buf : List ℕ) → length m ≤ length l → atFront l (atFront m buf) ≡ atFront l buf
-unfolding atFront
-front-twice m l buf h =
-    let d : length l ≡ length m + (length l - length m) = omega arith in
-    let r = drop (length m) buf in
-    let q : drop (length l) (m ++ r) ≡ drop (length l) buf =
-    ap (λ (k : ℕ). drop k (m ++ r)) d ∙ drop-append-add m r (length l - length m) ∙ drop-drop (length l - length m) (length m) buf
-    ∙ ap (λ (k : ℕ). drop k buf) (sym d) in
-    ap (λ (x : List ℕ). l ++ x) q
+use Rattle.writer.proofs.Heads.{sound-message}
+use Rattle.writer.proofs.Readings.{front-entries, grown-list}
+use Rattle.writer.proofs.Runs.{front-twice}
 
 front-room : (m buf : List ℕ) → length m ≤ length buf → length (atFront m buf) ≡ length buf
 unfolding atFront
 front-room m buf h = length-front buf m (length m) (sym (length-take-le (length m) buf h))
 
-well-make : (kind : ℕ) (e : List ℕ) → kind ≤ response → entriesFill 1 kind e ≡ true → wellFormed kind e ≡ true
+pub well-make : (kind : ℕ) (e : List ℕ) → kind ≤ response → entriesFill 1 kind e ≡ true → wellFormed kind e ≡ true
 unfolding wellFormed
 well-make kind e k f = simp (le-ltb response kind k, f)
 
@@ -173,7 +161,7 @@ beat-again t o f form value h = go (eqb (length t) secondsBytes) refl f h
         )
 
 -- bytes that are read as a keep-alive
-read-beat : (s : List ℕ) (n : ℕ) (l : List ℕ) → readOf s ≡ 0 ∷ n ∷ keepAlive ∷ 1 ∷ l
+pub read-beat : (s : List ℕ) (n : ℕ) (l : List ℕ) → readOf s ≡ 0 ∷ n ∷ keepAlive ∷ 1 ∷ l
     → length l ≡ 2 → (decide s ≡ Sound n) × (pduType s ≡ keepAlive) × (heartbeatNumbers (heartbeatOf (dataOf s n)) ≡ l)
 unfolding readOf readBy messageOf
 read-beat s n l h k = go (decide s) refl h
@@ -212,67 +200,3 @@ keep-again s buf n form value o room h =
     let m : take n s ≡ message keepAlive 1 (beatBytes form value) =
     sound-message s n o (r .0) ∙ rw (r .1, c, b .1) in
     rw m (sym (beat-good buf form value room (b .0)))
-
-joined-more : (es : List (List ℕ)) (e : List ℕ) → joined (es ++ (e ∷ [])) ≡ joined es ++ e
-joined-more [] e = append-nil e
-joined-more (d ∷ es) e = ap (λ (x : List ℕ). d ++ x) (joined-more es e) ∙ sym (append-assoc d (joined es) e)
-
--- what a run of a start and appends leaves
-pub record Run (buf : List ℕ) (kind count : ℕ) (t : List ℕ) (n : ℕ) (after : List ℕ) : Type 0 where
-  pub fill : entriesFill count kind t ≡ true
-  pub size : n ≡ length t + 10
-  pub front : after ≡ atFront (message kind count t) buf
-  pub holds : Holds after n kind count t
-
-start-run : (buf : List ℕ) (kind : ℕ) (e : List ℕ) (n : ℕ) → startOf buf kind e .answer ≡ notRefused ∷ n ∷ []
-    → Run buf kind 1 e n (startOf buf kind e .buffer)
-start-run buf kind e n h =
-    let w = start-way buf kind e n h in
-    let k = well-kind kind e (w .0) in
-    record {
-      fill = k .1;
-      size = w .1 .size;
-      front = w .1 .after;
-      holds = rw (w .1 .after, w .1 .size) (front-entries buf kind 1 e (w .1 .small) (k .0) (omega arith) (k .1));
-    }
-
-append-run : (buf : List ℕ) (kind c : ℕ) (t : List ℕ) (m : ℕ) (before e : List ℕ) (n : ℕ) → Run buf kind c t m before
-    → appendOf before kind e .answer ≡ notRefused ∷ n ∷ [] → Run buf kind (c + 1) (t ++ e) n (appendOf before kind e .buffer)
-append-run buf kind c t m before e n r h =
-    let w = append-way before kind e n h in
-    let k = well-kind kind e (w .well) in
-    let hs = r .holds .sound in
-    let ws = w .sound in
-    let same : w .length-before ≡ m = cc in
-    let data-is : dataOf before (w .length-before) ≡ t = ap (dataOf before) same ∙ r .holds .body in
-    let big : message kind (messageCount before + 1) (dataOf before (w .length-before) ++ e) ≡ message kind (c + 1) (t ++ e) =
-    ap (λ (x : ℕ). message kind (x + 1) (dataOf before (w .length-before) ++ e)) (r .holds .number)
-    ∙ ap (λ (x : List ℕ). message kind (c + 1) (x ++ e)) data-is in
-    let l : length (dataOf before (w .length-before) ++ e) ≡ length (t ++ e) = ap (λ (x : List ℕ). length (x ++ e)) data-is in
-    let f = grown-list c kind kind t e (entriesOf c kind t) refl refl (r .fill) (k .1) .1 in
-    let z : n ≡ length (t ++ e) + 10 = omega (arith, w .wrote .size) in
-    let a : appendOf before kind e .buffer ≡ atFront (message kind (c + 1) (t ++ e)) before =
-    w .wrote .after ∙ ap (λ (x : List ℕ). atFront x before) big in
-    record {
-      fill = f;
-      size = z;
-      front =
-          a ∙ ap (atFront (message kind (c + 1) (t ++ e))) (r .front)
-          ∙ front-twice (message kind c t) (message kind (c + 1) (t ++ e)) buf
-          (omega (arith, length-message kind c t, length-message kind (c + 1) (t ++ e), length-append t e));
-      holds = rw (a, z) (front-entries before kind (c + 1) (t ++ e) (omega (arith, w .wrote .small)) (k .0) (omega arith) f);
-    }
-
-run-as : (buf : List ℕ) (kind c d : ℕ) (t u : List ℕ) (n : ℕ) (after : List ℕ) → c ≡ d → t ≡ u → Run buf kind c t n after → Run buf kind d u n after
-run-as buf kind c d t u n after p q r = rw (← p, ← q) r
-
-pub made-run : {buf : List ℕ} {kind : ℕ} {es : List (List ℕ)} {n : ℕ} {after : List ℕ} → Made buf kind es n after → Run buf kind (length es) (joined es) n after
-made-run {buf} {kind} (started e n h) =
-    run-as buf kind 1 1 e (e ++ []) n (startOf buf kind e .buffer) refl (sym (append-nil e)) (start-run buf kind e n h)
-made-run {buf} {kind} (appended es m before e n r h) =
-    run-as buf kind (length es + 1) (length (es ++ (e ∷ []))) (joined es ++ e) (joined (es ++ (e ∷ []))) n (appendOf before kind e .buffer)
-    (sym (length-append es (e ∷ []))) (sym (joined-more es e)) (append-run buf kind (length es) (joined es) m before e n (made-run r) h)
-
-pub made-bytes : {buf : List ℕ} {kind : ℕ} {es : List (List ℕ)} {n : ℕ} {after : List ℕ} → Made buf kind es n after
-    → (n ≡ length (joined es) + 10) × (after ≡ atFront (message kind (length es) (joined es)) buf)
-made-bytes r = let w = made-run r in (w .size, w .front)

@@ -1,0 +1,143 @@
+-- A well formed entry is its fields laid out, its size in front and its part behind. Assumes nothing.
+use Prim.Native.Nat.{ℕ, suc, _+_, _≤_, _<_}
+use mathlib.Core.Path.{_≡_, refl, sym, ap, _∙_}
+use mathlib.Core.List.{List, [], _∷_, _++_}
+use mathlib.Core.Bool.{Bool, cond, true, false}
+use native.Mathlib.Omega.{arith}
+use lib.Dec.{ltb, eqb}
+use lib.ListN.{length, drop, getD, length-drop, take-append-drop}
+use lib.Seq.{drop-drop, drop-cons}
+use Rattle.octets.specs.Numbers.{be16At, be32At, bytes16, bytes32, Octets}
+use Rattle.octets.proofs.Digits.{bytes16-be16, bytes32-be32}
+use Rattle.frame.specs.Limits.{notification, leastCommand, leastNotification, leastResponse}
+use Rattle.frame.specs.Entry.{leastEntry, wellFormed}
+use Rattle.frame.proofs.Entries.{entry-at, entries-first}
+use Rattle.fields.specs.Place.{parametersOf}
+use Rattle.fields.specs.Fields.{methodAt, commandOf, notificationOf, responseOf}
+use Rattle.reader.specs.Numbers.{entryNumbers}
+use Rattle.reader.specs.Entry.{fieldsOf}
+use Rattle.reader.specs.declared.Entry.{Entry}
+use Rattle.reader.specs.declared.Entry.the-variants as entry
+use Rattle.reader.proofs.Tells.{numbers-tell}
+use Rattle.writer.proofs.Outcomes.{well-kind}
+use Rattle.writer.proofs.Walks.{one-size}
+use Rattle.lossless.specs.Again.{commandAgain, notificationAgain, responseAgain, entryAgain}
+use Rattle.lossless.specs.Lossless.{EntryOf}
+
+under : (x : List ℕ) {a b : List ℕ} → a ≡ b → x ++ a ≡ x ++ b
+under x p = ap (λ (y : List ℕ). x ++ y) p
+
+module _ (e : List ℕ) (o : Octets e) where
+  -- one field off the front of what is left
+  peel32 : (at : ℕ) → at + 4 ≤ length e → drop at e ≡ bytes32 (be32At e at) ++ drop (at + 4) e
+  peel32 at h =
+      sym (take-append-drop 4 (drop at e)) ∙ ap (λ (x : List ℕ). x ++ drop 4 (drop at e)) (sym (bytes32-be32 e at o h))
+      ∙ under (bytes32 (be32At e at)) (drop-drop 4 at e)
+
+  peel16 : (at : ℕ) → at + 2 ≤ length e → drop at e ≡ bytes16 (be16At e at) ++ drop (at + 2) e
+  peel16 at h =
+      sym (take-append-drop 2 (drop at e)) ∙ ap (λ (x : List ℕ). x ++ drop 2 (drop at e)) (sym (bytes16-be16 e at o h))
+      ∙ under (bytes16 (be16At e at)) (drop-drop 2 at e)
+
+  peel8 : (at : ℕ) → at < length e → drop at e ≡ getD e at 0 ∷ drop (suc at) e
+  peel8 at h = drop-cons e at 0 h
+
+  module _ (size : be32At e 0 ≡ length e) where
+    -- the size is the least entry and the part
+    sized : (least : ℕ) → least ≤ length e → (rest : List ℕ) → bytes32 (be32At e 0) ++ rest ≡ bytes32 (least + length (drop least e)) ++ rest
+    sized least h rest =
+        let z : be32At e 0 ≡ least + length (drop least e) = omega (arith, length-drop least e) in
+        ap (λ (n : ℕ). bytes32 n ++ rest) z
+
+    command-laid : leastCommand ≤ length e → e ≡ commandAgain (commandOf e) (drop leastCommand e)
+    unfolding commandAgain commandOf methodAt
+    command-laid h =
+        peel32 0 (omega arith)
+        ∙ under (bytes32 (be32At e 0))
+        (peel32 4 (omega arith)
+        ∙ under (bytes32 (be32At e 4))
+        (peel32 8 (omega arith)
+        ∙ under (bytes32 (be32At e 8))
+        (peel16 12 (omega arith)
+        ∙ under (bytes16 (be16At e 12)) (peel16 14 (omega arith) ∙ under (bytes16 (be16At e 14)) (peel8 16 (omega arith))))))
+        ∙ sized leastCommand h _
+
+    notification-laid : leastNotification ≤ length e → e ≡ notificationAgain (notificationOf e) (drop leastNotification e)
+    unfolding notificationAgain notificationOf methodAt
+    notification-laid h =
+        peel32 0 (omega arith)
+        ∙ under (bytes32 (be32At e 0))
+        (peel32 4 (omega arith)
+        ∙ under (bytes32 (be32At e 4))
+        (peel16 8 (omega arith)
+        ∙ under (bytes16 (be16At e 8))
+        (peel16 10 (omega arith)
+        ∙ under (bytes16 (be16At e 10))
+        (peel8 12 (omega arith)
+        ∙ under (getD e 12 0 ∷ [])
+        (peel32 13 (omega arith)
+        ∙ under (bytes32 (be32At e 13))
+        (peel32 17 (omega arith)
+        ∙ under (bytes32 (be32At e 17))
+        (peel16 21 (omega arith)
+        ∙ under (bytes16 (be16At e 21)) (peel16 23 (omega arith)))))))))
+        ∙ sized leastNotification h _
+
+    response-laid : leastResponse ≤ length e → e ≡ responseAgain (responseOf e) (drop leastResponse e)
+    unfolding responseAgain responseOf
+    response-laid h =
+        peel32 0 (omega arith)
+        ∙ under (bytes32 (be32At e 0))
+        (peel32 4 (omega arith)
+        ∙ under (bytes32 (be32At e 4)) (peel8 8 (omega arith) ∙ under (getD e 8 0 ∷ []) (peel8 9 (omega arith))))
+        ∙ sized leastResponse h _
+
+-- the answer that reading an entry of that type gives
+pub answerOf : ℕ → List ℕ → Entry
+answerOf kind e =
+    cond (ltb kind notification) (entry.Command (commandOf e))
+    (cond (eqb kind notification) (entry.Notification (notificationOf e)) (entry.Response (responseOf e)))
+
+pub answer-numbers : (kind : ℕ) (e : List ℕ) → entryNumbers (answerOf kind e) ≡ fieldsOf kind e
+unfolding answerOf fieldsOf entryNumbers
+answer-numbers kind e = go (ltb kind notification) (eqb kind notification)
+  where
+    go : (a b : Bool)
+        → entryNumbers (cond a (entry.Command (commandOf e)) (cond b (entry.Notification (notificationOf e)) (entry.Response (responseOf e))))
+        ≡ cond a (entryNumbers (entry.Command (commandOf e)))
+        (cond b (entryNumbers (entry.Notification (notificationOf e))) (entryNumbers (entry.Response (responseOf e))))
+    go true b = refl
+    go false true = refl
+    go false false = refl
+
+-- an entry's size is its length, and not below the least
+entry-sized : (kind : ℕ) (e : List ℕ) → wellFormed kind e ≡ true → (be32At e 0 ≡ length e) × (leastEntry kind ≤ length e)
+entry-sized kind e w =
+    let f = well-kind kind e w .1 in
+    let a = entry-at kind e (entries-first 0 kind e f .0) in
+    let z = one-size kind e f in
+    omega (arith, a .size, a .low)
+
+-- the entry again, from its own answer and its own part
+pub answer-laid : (kind : ℕ) (e : List ℕ) → EntryOf kind e → entryAgain (answerOf kind e) (parametersOf kind e) ≡ e
+unfolding answerOf entryAgain parametersOf leastEntry
+answer-laid kind e w = let z = entry-sized kind e (w .well) in sym (go (ltb kind notification) (eqb kind notification) (z .0) (z .1))
+  where
+    go : (a b : Bool) → be32At e 0 ≡ length e → cond a leastCommand (cond b leastNotification leastResponse) ≤ length e
+        → e
+        ≡ entryAgain (cond a (entry.Command (commandOf e)) (cond b (entry.Notification (notificationOf e)) (entry.Response (responseOf e))))
+        (drop (cond a leastCommand (cond b leastNotification leastResponse)) e)
+    go true b z h = command-laid e (w .bytes) z h
+    go false true z h = notification-laid e (w .bytes) z h
+    go false false z h = response-laid e (w .bytes) z h
+
+-- and from any answer with its numbers
+pub entry-laid : (kind : ℕ) (e : List ℕ) → EntryOf kind e → (r : Entry) → entryNumbers r ≡ fieldsOf kind e → entryAgain r (parametersOf kind e) ≡ e
+entry-laid kind e w r h =
+    let q = numbers-tell .entries r (answerOf kind e) (h ∙ sym (answer-numbers kind e)) in
+    ap (λ (x : Entry). entryAgain x (parametersOf kind e)) q ∙ answer-laid kind e w
+
+pub entries-told : (kind : ℕ) (e f : List ℕ) → EntryOf kind e → EntryOf kind f → fieldsOf kind e ≡ fieldsOf kind f
+    → parametersOf kind e ≡ parametersOf kind f → e ≡ f
+entries-told kind e f v w n p =
+    sym (answer-laid kind e v) ∙ ap (entryAgain (answerOf kind e)) p ∙ entry-laid kind f w (answerOf kind e) (answer-numbers kind e ∙ n)
