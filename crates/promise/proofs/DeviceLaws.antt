@@ -45,7 +45,7 @@ use Rattle.promise.proofs.OpenConnections.{live-closed, live-gone, live
 use Rattle.promise.proofs.Ways.{take-ways}
 use Rattle.promise.proofs.Masks.{mask-bit}
 
-admit-live : (d : Device) (n : ℕ) (out : List ℕ) → admit d n out ≡ 0 → liveAt (d .connections) n ≡ true
+pub admit-live : (d : Device) (n : ℕ) (out : List ℕ) → admit d n out ≡ 0 → liveAt (d .connections) n ≡ true
 unfolding admit
 admit-live d n out e = go (liveAt (d .connections) n) (ltb (length out) leastOutput) e
   where
@@ -150,7 +150,7 @@ closed-shape d reading step m =
         → (t .device .connections ≡ map (connectionTicked step) (d .connections)) × (mask (closesAt step) (d .connections) ≡ m)
 
 -- a closed connection stays closed
-ticked-closed : (step : ℕ) → connectionTicked step closed ≡ closed
+pub ticked-closed : (step : ℕ) → connectionTicked step closed ≡ closed
 unfolding connectionTicked
 ticked-closed step = refl
 

@@ -7,9 +7,9 @@ use native.Mathlib.Omega.{arith}
 use native.Mathlib.Decide.{decLe}
 use native.Mathlib.Nat.{le-of-suc-le-suc}
 use lib.ListN.{length, getD, take, drop, length-drop, take-append-drop}
-use lib.Seq.{length-take-le, take-take, take-append-le, drop-append-le, take-append-seam, drop-append-seam}
+use lib.Seq.{length-take-le, take-take, take-append-le, drop-append-le, take-append-seam, drop-append-seam, take-length, drop-length}
 use Rattle.laws.specs.Lists.{all, joined}
-use Rattle.laws.proofs.Conds.{and-right}
+use Rattle.laws.proofs.Conds.{and-left, and-right}
 use Rattle.laws.proofs.Tables.{and-both}
 use Rattle.frame.specs.Decide.{decide, taken, settled}
 use Rattle.frame.specs.declared.Decision.{Decision}
@@ -203,6 +203,28 @@ stopped-within (suc n) s t h a = go (front s) (λ k e. stopped-within n (drop k 
 pub split-more : (s t : List ℕ) → AllSound (splitOf s .messages)
     → splitOf (s ++ t) ≡ messagesThen (splitOf s .messages) (splitOf (splitOf s .left ++ t))
 split-more s t = more-within (length s) s t (omega arith)
+
+-- a message that ends with its deciding byte is one message, and nothing is left
+pub split-one : (m : List ℕ) → settled (decide m) ≡ true → taken (decide m) ≡ length m → splitOf m ≡ parts (m ∷ []) []
+unfolding settled taken
+split-one m u x = go (front m)
+  where
+    go : Front m → splitOf m ≡ parts (m ∷ []) []
+    go (waits e) = absurd (true≢false (sym u ∙ ap settled e))
+    go (stops f k e) =
+        let q : k ≡ length m = ap taken (sym e) ∙ x in
+        split-fault m f k e ∙ rw (q, take-length m, drop-length m)
+    go (goes k e) =
+        let q : k ≡ length m = ap taken (sym e) ∙ x in
+        split-sound m k e ∙ rw (q, take-length m, drop-length m, split-none [] (empty-waits [] (omega arith)))
+
+-- one more sound message
+pub sound-more : (ms : List (List ℕ)) (m : List ℕ) → AllSound ms → decidesSound (decide m) ≡ true → AllSound (ms ++ (m ∷ []))
+sound-more [] m a e = rw e
+sound-more (x ∷ ms) m a e =
+    and-both (decidesSound (decide x)) (all (λ (y : List ℕ). decidesSound (decide y)) (ms ++ (m ∷ [])))
+    (and-left (decidesSound (decide x)) (all (λ (y : List ℕ). decidesSound (decide y)) ms) a)
+    (sound-more ms m (and-right (decidesSound (decide x)) (all (λ (y : List ℕ). decidesSound (decide y)) ms) a) e)
 
 -- ---- the only one
 
