@@ -1,2 +1,5 @@
 pub mod Takes
+pub mod Responses
+pub mod Replies
+pub mod Deliveries
 pub mod Sends
