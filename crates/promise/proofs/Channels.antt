@@ -1,4 +1,4 @@
--- A channel that nobody asks for stays free: for Reset. Assumes nothing.
+-- A channel that nobody asks for stays free: for Reset, and for the technician. Assumes nothing.
 use Prim.Native.Nat.{ℕ, zero, suc, _+_, _^_, _≤_}
 use mathlib.Core.Path.{_≡_, refl, sym, ap, _∙_}
 use mathlib.Core.Bool.{Bool, cond, true, false, not, _&&_}
@@ -60,11 +60,11 @@ use Rattle.promise.proofs.Ways.{take-ways, done-ways, run-ways}
 use Rattle.promise.proofs.Stream.{stream-theorem}
 
 -- ---- a holder at a place
-swept-none : (cs : List Connection) → sweptHolder cs 0 ≡ 0
+pub swept-none : (cs : List Connection) → sweptHolder cs 0 ≡ 0
 unfolding sweptHolder
 swept-none cs = either (λ (x : ℕ). x ≡ 0) (holderObeys cs 0) 0 0 refl refl
 
-swept-free : (cs : List Connection) (hs : List ℕ) (at : ℕ) → getD hs at 0 ≡ 0 → getD (map (sweptHolder cs) hs) at 0 ≡ 0
+pub swept-free : (cs : List Connection) (hs : List ℕ) (at : ℕ) → getD hs at 0 ≡ 0 → getD (map (sweptHolder cs) hs) at 0 ≡ 0
 swept-free cs hs at e =
     ap (λ (z : ℕ). getD (map (sweptHolder cs) hs) at z) (sym (swept-none cs)) ∙ List·getD-map (sweptHolder cs) hs at 0 ∙ ap (sweptHolder cs) e ∙ swept-none cs
 
@@ -114,7 +114,7 @@ last-free (suc j) d at n kind t e a =
     let k = or-neither (asksWith at (commandOf (take (entrySize kind t) t))) (asksOver j at kind (drop (entrySize kind t) t)) a in
     last-free j (ranFirst d n kind t .device) at n kind (drop (entrySize kind t) t) (run-free d at e n _ _ _ _ (k .0)) (k .1)
 
-sound-free : (d : Device) (at n : ℕ) (m : List ℕ) → getD (d .holders) at 0 ≡ 0 → (ltb (pduType m) notification && asksOver (messageCount m) at (pduType m) (drop headerEnd m)) ≡ false
+pub sound-free : (d : Device) (at n : ℕ) (m : List ℕ) → getD (d .holders) at 0 ≡ 0 → (ltb (pduType m) notification && asksOver (messageCount m) at (pduType m) (drop headerEnd m)) ≡ false
     → getD (soundOf d n m .device .holders) at 0 ≡ 0
 unfolding soundOf commandsOf keptAlive beatingAt heardAt sentAt
 sound-free d at n m e a =

@@ -1,3 +1,7 @@
 pub mod Untouched
 pub mod Watched
+pub mod Silent
+pub mod Locked
+pub mod Free
+pub mod Heard
 pub mod Technician

@@ -1,146 +1,211 @@
--- TechnicianLetIn: when a silent connection is closed, and that its locks are free then. Assumes nothing.
-use Prim.Native.Nat.{ℕ, _+_, _*_, _^_, _<_, _≤_}
-use mathlib.Core.Path.{_≡_, refl, sym, _∙_}
-use mathlib.Core.Bool.{true}
-use mathlib.Core.List.{List, [], _∷_}
+-- TechnicianLetIn: when a silent connection is closed, and that whoever then asks for its lock gets it. Assumes nothing.
+use Prim.Native.Nat.{ℕ, zero, suc, _+_, _*_, _^_, _<_, _≤_}
+use mathlib.Core.Path.{_≡_, refl, sym, ap, subst, _∙_}
+use mathlib.Core.Bool.{Bool, cond, true, false}
+use mathlib.Core.List.{List, [], _∷_, _++_}
 use native.Mathlib.Omega.{arith}
-use lib.ListN.{getD}
+use lib.ListN.{length, getD}
 use borrow.Author.Tests.{le-leb, lt-leb}
-use Rattle.laws.proofs.Conds.{and-left, and-right}
+use Rattle.octets.specs.Numbers.{be16At, be32At, bytes32}
+use Rattle.heartbeat.specs.Beat.{beatOf}
+use Rattle.frame.specs.Limits.{keepAlive}
+use Rattle.frame.specs.Header.{pduType, countFault, fieldsFault, headerFault}
+use Rattle.frame.specs.Decide.{keepAliveFill, dataSound, decideData, decideHeader, decide}
+use Rattle.frame.specs.declared.Decision.the-variants.{Sound}
+use Rattle.fields.specs.Fields.{heartbeatOf}
+use Rattle.reader.specs.Examples.{keepAlive2s}
 use Rattle.area.specs.Area.{areaSound}
 use Rattle.connection.specs.State.{liveAt}
+use Rattle.numbers.specs.Refusal.{clockBack}
 use Rattle.device.specs.Time.{tickStep}
-use Rattle.device.specs.declared.Device.{Device}
 use Rattle.device.proofs.Keeps.{rules-kept}
 use Rattle.stream.specs.Machine.{deliver, ask}
 use Rattle.endpoint.specs.State.{recordObeys}
 use Rattle.endpoint.specs.Outcome.{refused}
-use Rattle.numbers.specs.Refusal.{clockBack}
 use Rattle.endpoint.specs.Calls.{tickedBy, tickCall}
 use Rattle.endpoint.specs.declared.Record.{Record}
-use Rattle.promise.specs.Rulebook.{opening, closing, ticking, taking, datagram}
+use Rattle.promise.specs.Rulebook.{ticking}
 use Rattle.promise.specs.Calls.{HostCall, callOf}
+use Rattle.promise.specs.Kept.{Kept}
 use Rattle.promise.specs.Ticks.{stepAt, passes}
-use Rattle.promise.specs.Locks.{lockStatus}
-use Rattle.technician.specs.Technician.{Watched, Closes, isSilent, callsOf, allSilent, readingBy, stepBy, timeOf, thenTick, SilentCalls, OverdueCalls, Exactly, TechnicianLetIn}
-use Rattle.promise.proofs.Ticks.{device-obeys, moved}
-use Rattle.promise.proofs.Locks.{locked-out}
-use Rattle.technician.proofs.Watched.{unwatched, shutting, letting, leaving}
-use Rattle.technician.proofs.Untouched.{Same, lock-kept, half, open-call, close-call, take-call, datagram-call, deliver-call}
+use Rattle.promise.proofs.Kept.{calls-keep}
+use Rattle.promise.proofs.Ticks.{device-obeys}
+use Rattle.technician.specs.Silence.{Watched, stepIn, callsOf, timeIn}
+use Rattle.technician.specs.Lock.{lockBytes, replyBytes, holderIn}
+use Rattle.technician.specs.Technician.{Course, spoken, atLast, sinceThen, thenTick, GoesSilent, Holds, Reaches, Asks, Waits, Closes, Enters, beatIn, keepAlive30s, mostInSeconds, mostInMilliseconds, Exactly, TechnicianLetIn}
+use Rattle.technician.proofs.Untouched.{half}
+use Rattle.technician.proofs.Watched.{Followed, shutting, freeing}
+use Rattle.technician.proofs.Silent.{calls-on, time-on, calls-kept, Stands, many, idle-many}
+use Rattle.technician.proofs.Locked as locks
+use Rattle.technician.proofs.Free.{calls-have, calls-free}
+use Rattle.technician.proofs.Heard.{heard}
 
--- connection n of e is watched with silence s, has its locks of d, and e has that reading
-record Holds (n H s last : ℕ) (d e : Device) : Type 0 where
-  watched : Watched e n H s
-  locks : (at : ℕ) → getD (d .holders) at 0 ≡ n + 1 → getD (e .holders) at 0 ≡ n + 1
-  reading : e .reading ≡ last
+-- where somebody holds a lock there is a place for it
+has-place : (hs : List ℕ) (at n : ℕ) → getD hs at 0 ≡ n + 1 → at < length hs
+has-place [] at n e = absurd (omega arith)
+has-place (x ∷ hs) zero n e = omega arith
+has-place (x ∷ hs) (suc at) n e = let h = has-place hs at n e in omega arith
 
-same-holds : (n H s : ℕ) (d e : Device) → Watched d n H s → Same n d e → Holds n H (s + 0) (d .reading) d e
-unfolding liveAt
-same-holds n H s d e w a =
-    let z : s + 0 ≡ s = omega arith in
-    record {
-      watched = record { eight = a .long ∙ w .eight; live = a .live ∙ w .live; above = w .above; beat = a .beat ∙ w .beat; silent = a .silence ∙ w .silent ∙ sym z };
-      locks = a .locks;
-      reading = a .reading;
-    }
+module _ (c : Course) (H : ℕ) (g : GoesSilent c H) where
+  kept : Kept (spoken c .state) (spoken c .area)
+  unfolding callOf
+  kept = calls-keep .calling (c .start) (c .area) (deliver (c .tablet) (c .piece) (c .out)) (g .octets) (g .ends .kept)
 
-one : (r : Record) (area : List ℕ) (c : HostCall) (n H s : ℕ) → isSilent n r area c ≡ true → Watched (r .device) n H s → s + stepBy (r .device .reading) c < 3 * H
-    → Holds n H (s + stepBy (r .device .reading) c) (readingBy (r .device .reading) c) (r .device) (callOf r area c .state .device)
-unfolding callOf isSilent stepBy readingBy
-one r area (deliver k piece out) n H s a w l = same-holds n H s (r .device) _ w (deliver-call r area k piece out n a (w .live))
-one r area (ask opening) n H s a w l = same-holds n H s (r .device) _ w (open-call r n (w .live))
-one r area (ask (closing k)) n H s a w l = same-holds n H s (r .device) _ w (close-call r area k n a (w .live))
-one r area (ask (ticking x)) n H s a w l =
-    let v = leaving r area x a n H s w l in
-    record { watched = v .watched; locks = λ at h. lock-kept n at (r .device) (tickCall r area x .state .device) (v .stays) h; reading = moved r area x a }
-one r area (ask (taking out)) n H s a w l = same-holds n H s (r .device) _ w (take-call r out n)
-one r area (ask (datagram g)) n H s a w l = same-holds n H s (r .device) _ w (datagram-call r area g n a)
+  kept-last : Kept (atLast c .0) (atLast c .1)
+  kept-last = calls-kept (spoken c .state) (spoken c .area) (c .calls) (g .bytes) kept
 
--- ---- calls one after another
+  spoke : Watched (spoken c .state .device) (c .tablet) H 0
+  spoke = rw (g .beat) at (heard (c .start) (c .area) (c .tablet) (c .piece) (c .out) (g .message) (g .ends))
 
--- the time of a call and of those behind it
-time-on : (r : Record) (area : List ℕ) (c : HostCall) (s : ℕ) (rest : List HostCall) → callOf r area c .state .device .reading ≡ readingBy (r .device .reading) c
-    → s + stepBy (r .device .reading) c + timeOf (callOf r area c .state .device .reading) rest
-    ≡ s + (stepBy (r .device .reading) c + timeOf (readingBy (r .device .reading) c) rest)
-time-on r area c s rest e = rw e (omega arith)
+  stands : sinceThen c < 3 * H → Stands (c .tablet) H (sinceThen c) (spoken c .state .device) (atLast c .0 .device)
+  stands l =
+      let f : Followed (spoken c .state .device) (c .tablet) H 0 =
+      record { eight = kept .eight; live = spoke .live; above = omega arith; beat = spoke .beat; silent = spoke .silent } in
+      let e : 0 + sinceThen c ≡ sinceThen c = omega arith in
+      rw e at (many (spoken c .state) (spoken c .area) (c .calls) (c .tablet) H 0 (g .silent) f (omega arith))
 
-record Still (n H s : ℕ) (d e : Device) : Type 0 where
-  watched : Watched e n H s
-  locks : (at : ℕ) → getD (d .holders) at 0 ≡ n + 1 → getD (e .holders) at 0 ≡ n + 1
+  -- with its locks, and others shut out of them
+  waiting : liveAt (atLast c .0 .device .connections) (c .tablet) ≡ true
+      → ((at : ℕ) → Holds c at → holderIn (atLast c .0) at ≡ c .tablet + 1) → Waits c
+  waiting l h =
+      record {
+        live = l;
+        holds = h;
+        lockedOut = λ k handle at out z e can. locks.refusing (atLast c .0) (atLast c .1) k handle at out kept-last can (c .tablet) e (h at z);
+      }
 
-many : (r : Record) (area : List ℕ) (calls : List HostCall) (n H s : ℕ) → SilentCalls r area calls n H s
-    → Still n H (s + timeOf (r .device .reading) calls) (r .device) (callsOf r area calls .0 .device)
-unfolding callsOf allSilent timeOf
-many r area [] n H s w = let e : s + 0 ≡ s = omega arith in record { watched = rw e (w .watched); locks = λ at h. h }
-many r area (c ∷ rest) n H s w =
-    let a = and-left (isSilent n r area c) _ (w .silent) in
-    let b = and-right (isSilent n r area c) _ (w .silent) in
-    let r' = callOf r area c .state in
-    let v = one r area c n H s a (w .watched) (omega (arith, w .below)) in
-    let e = time-on r area c s rest (v .reading) in
-    let m = many r' (callOf r area c .area) rest n H (s + stepBy (r .device .reading) c) (record { watched = v .watched; silent = b; below = rw e (w .below) }) in
-    record { watched = rw e at (m .watched); locks = λ at h. m .locks at (v .locks at h) }
+  waits : sinceThen c < 3 * H → Waits c
+  waits l = let s = stands l in waiting (s .followed .live) (s .locks)
 
--- the tick that closes, and what it frees
-record Opens (r : Record) (area : List ℕ) (calls : List HostCall) (reading n : ℕ) : Type 0 where
-  shuts : Closes (callsOf r area calls .0) (callsOf r area calls .1) reading n
-  frees : (k at : ℕ) → at < 8 → getD (r .device .holders) at 0 ≡ n + 1 → lockStatus (callsOf r area (thenTick calls reading) .0 .device) k at ≡ 0
+  counts : sinceThen c < 3 * H → Watched (atLast c .0 .device) (c .tablet) H (sinceThen c)
+  counts l = let f = stands l .followed in record { live = f .live; beat = f .beat; silent = f .silent }
 
-first : (r : Record) (area : List ℕ) (calls : List HostCall) (reading n H s : ℕ) → OverdueCalls r area calls reading n H s → Opens r area calls reading n
-unfolding callsOf allSilent timeOf isSilent stepBy callOf
-first r area [] y n H s w =
-    let a = and-left (passes r area y) _ (w .silent) in
-    let u : 3 * H ≤ s + stepAt r y = omega (arith, w .reaches) in
-    record { shuts = shutting r area y a n H s (w .watched) u; frees = letting r area y a n H s (w .watched) u }
-first r area (c ∷ rest) y n H s w =
-    let a = and-left (isSilent n r area c) _ (w .silent) in
-    let b = and-right (isSilent n r area c) _ (w .silent) in
-    let r' = callOf r area c .state in
-    let v = one r area c n H s a (w .watched) (omega (arith, w .below)) in
-    let e = time-on r area c s rest (v .reading) in
-    let f = time-on r area c s (thenTick rest y) (v .reading) in
-    let m =
-    first r' (callOf r area c .area) rest y n H (s + stepBy (r .device .reading) c)
-    (record { watched = v .watched; silent = b; below = rw e (w .below); reaches = rw f (w .reaches) }) in
-    record { shuts = m .shuts; frees = λ k at h z. m .frees k at h (v .locks at z) }
+  module _ (reading : ℕ) (a : Reaches c reading H) where
+    -- the tick's outcome
+    later-time : sinceThen (thenTick c reading []) ≡ sinceThen c + (cond (passes (atLast c .0) (atLast c .1) reading) (stepAt (atLast c .0) reading) 0 + 0)
+    later-time = time-on (spoken c .state) (spoken c .area) (c .calls) (ask (ticking reading) ∷ []) ∙ (unfold timeIn stepIn in refl)
+
+    passing : passes (atLast c .0) (atLast c .1) reading ≡ true
+    passing = go (passes (atLast c .0) (atLast c .1) reading) refl
+      where
+        go : (b : Bool) → passes (atLast c .0) (atLast c .1) reading ≡ b → b ≡ true
+        go true q = refl
+        go false q =
+            let t : sinceThen (thenTick c reading []) ≡ sinceThen c + (0 + 0) = rw q at later-time in
+            absurd (omega (arith, t, a .before, a .reached))
+
+    reached : 3 * H ≤ sinceThen c + stepAt (atLast c .0) reading
+    reached =
+        let t : sinceThen (thenTick c reading []) ≡ sinceThen c + (stepAt (atLast c .0) reading + 0) = rw passing at later-time in
+        omega (arith, t, a .reached)
+
+    closes : Closes (atLast c .0) (atLast c .1) reading (c .tablet)
+    closes = shutting (atLast c .0) (atLast c .1) reading passing (c .tablet) H (sinceThen c) (stands (a .before) .followed) reached
+
+    -- the record and the area after the tick, and after later calls
+    ticked : atLast (thenTick c reading []) ≡ (tickCall (atLast c .0) (atLast c .1) reading .state, tickCall (atLast c .0) (atLast c .1) reading .area)
+    ticked = calls-on (spoken c .state) (spoken c .area) (c .calls) (ask (ticking reading) ∷ []) ∙ (unfold callsOf callOf in refl)
+
+    on : (later : List HostCall)
+        → atLast (thenTick c reading later) ≡ callsOf (tickCall (atLast c .0) (atLast c .1) reading .state) (tickCall (atLast c .0) (atLast c .1) reading .area) later
+    on later = calls-on (spoken c .state) (spoken c .area) (c .calls) (ask (ticking reading) ∷ later) ∙ (unfold callsOf callOf in refl)
+
+    freed : (at : ℕ) → Holds c at → getD (tickCall (atLast c .0) (atLast c .1) reading .state .device .holders) at 0 ≡ 0
+    freed at h =
+        let s = stands (a .before) in
+        freeing (atLast c .0) (atLast c .1) reading passing (c .tablet) H (sinceThen c) (s .followed) reached at (s .locks at h)
+
+    frees : (at : ℕ) → Holds c at → holderIn (atLast (thenTick c reading []) .0) at ≡ 0
+    frees at h = ap (λ (x : Record × List ℕ). getD (x .0 .device .holders) at 0) ticked ∙ freed at h
+
+    letIn : (later : List HostCall) (k handle at : ℕ) (out : List ℕ) → Asks c reading later k handle at out → Enters c reading later k handle at out
+    letIn later k handle at out q =
+        let t = tickCall (atLast c .0) (atLast c .1) reading in
+        let end = atLast (thenTick c reading later) in
+        let kt : Kept (t .state) (t .area) = unfold callOf in calls-keep .calling (atLast c .0) (atLast c .1) (ask (ticking reading)) tt kept-last in
+        let ke = subst (λ (x : Record × List ℕ). Kept (x .0) (x .1)) (sym (on later)) (calls-kept (t .state) (t .area) later (q .bytes) kt) in
+        let has = calls-have at (q .can .channel) (spoken c .state) (spoken c .area) (c .calls ++ (ask (ticking reading) ∷ later)) (has-place (spoken c .state .device .holders) at (c .tablet) (q .held)) in
+        let free = calls-free at (atLast (thenTick c reading []) .0) (atLast (thenTick c reading []) .1) later (frees at (q .held)) (q .unasked) in
+        let same = ap (λ (x : Record × List ℕ). callsOf (x .0) (x .1) later) ticked in
+        locks.entering (end .0) (end .1) k handle at out ke (q .can) (ke .eight) has
+        (ap (λ (x : Record × List ℕ). getD (x .0 .device .holders) at 0) (on later ∙ sym same) ∙ free)
+
+never : (c : Course) → GoesSilent c 0 → Waits c
+never c g =
+    let w = spoke c 0 g in
+    let i = idle-many (c .tablet) (spoken c .state) (spoken c .area) (c .calls) (g .silent) (w .live) (w .beat) in
+    waiting c 0 g (i .live) (i .locks)
 
 -- ---- refusals
 module _ (r : Record) (area : List ℕ) (reading : ℕ) (o : recordObeys r ≡ true) (a : areaSound (r .held) area ≡ true) where
-  passing : stepAt r reading < 2 ^ 31 → passes r area reading ≡ true
+  timely : stepAt r reading < 2 ^ 31 → passes r area reading ≡ true
   unfolding passes tickCall tickStep tickedBy
-  passing h =
+  timely h =
       let e = lt-leb (2 ^ 31) (stepAt r reading) h in
       rw (o, a, e, rules-kept .fitting (r .device) reading (device-obeys r o) e)
 
-  refusing : 2 ^ 31 ≤ stepAt r reading → tickCall r area reading ≡ refused clockBack r area []
+  back : 2 ^ 31 ≤ stepAt r reading → tickCall r area reading ≡ refused clockBack r area []
   unfolding tickCall tickStep tickedBy
-  refusing h = rw (o, a, le-leb (2 ^ 31) (stepAt r reading) h)
+  back h = rw (o, a, le-leb (2 ^ 31) (stepAt r reading) h)
 
 -- ---- with numbers
-exactly : (H last next : ℕ) → last < 3 * H → 3 * H ≤ next → Exactly H last next
-exactly H last next l u =
+exactly : (m : List ℕ) (H last next : ℕ) → decide m ≡ Sound (length m) → pduType m ≡ keepAlive → beatIn m ≡ H → last < 3 * H → 3 * H ≤ next → Exactly m H last next
+exactly m H last next s k b l u =
     record {
-      stays = λ r area x n s w e. rw e at (leaving r area x (w .passing) n H s (w .watched) (omega arith));
-      closes = λ r area x n s w e. shutting r area x (w .passing) n H s (w .watched) (omega arith);
+      sound = s;
+      kind = k;
+      beat = b;
+      waits = λ c g t. waits c H g (omega arith);
+      letIn = λ c reading g t v. letIn c H g reading (record { before = omega arith; reached = omega arith });
     }
+
+-- the heartbeats that the keep-alives set
+module _ where
+  abbrev Sets : List ℕ → ℕ → Type 0
+  Sets m H = (decide m ≡ Sound (length m)) × (beatIn m ≡ H)
+
+  sets-2 : Sets keepAlive2s 2000
+  unfolding decide decideHeader decideData dataSound keepAliveFill headerFault fieldsFault countFault be16At be32At heartbeatOf beatOf
+  sets-2 = (refl, refl)
+
+  sets-30 : Sets keepAlive30s 30000
+  unfolding decide decideHeader decideData dataSound keepAliveFill headerFault fieldsFault countFault be16At be32At heartbeatOf beatOf
+  sets-30 = (refl, refl)
+
+  sets-seconds : Sets mostInSeconds 65535000
+  unfolding decide decideHeader decideData dataSound keepAliveFill headerFault fieldsFault countFault be16At be32At heartbeatOf beatOf
+  sets-seconds = (refl, refl)
+
+  sets-milliseconds : Sets mostInMilliseconds 4294967295
+  unfolding decide decideHeader decideData dataSound keepAliveFill headerFault fieldsFault countFault be16At be32At heartbeatOf beatOf
+  sets-milliseconds = (refl, refl)
+
+lock : lockBytes 7 0 ≡ 0x3B ∷ 0x00 ∷ 0x01 ∷ 0x00 ∷ 0x00 ∷ 0x00 ∷ 0x1A ∷ 0x01 ∷ 0x00 ∷ 0x01 ∷ 0x00 ∷ 0x00 ∷ 0x00 ∷ 0x11 ∷ 0x00 ∷ 0x00 ∷ 0x00 ∷ 0x07 ∷ 0x00 ∷ 0x00 ∷ 0x10 ∷ 0x01 ∷ 0x00 ∷ 0x01 ∷ 0x00 ∷ 0x03 ∷ 0x00 ∷ []
+unfolding lockBytes bytes32
+lock = refl
+
+reply : (status : ℕ) → replyBytes 7 status ≡ 0x3B ∷ 0x00 ∷ 0x01 ∷ 0x00 ∷ 0x00 ∷ 0x00 ∷ 0x13 ∷ 0x03 ∷ 0x00 ∷ 0x01 ∷ 0x00 ∷ 0x00 ∷ 0x00 ∷ 0x0A ∷ 0x00 ∷ 0x00 ∷ 0x00 ∷ 0x07 ∷ status ∷ 0x00 ∷ []
+unfolding replyBytes bytes32
+reply status = refl
 
 pub technician-let-in : TechnicianLetIn
 technician-let-in =
     record {
-      closes = λ r area x n H s w. shutting r area x (w .tick .passing) n H s (w .tick .watched) (w .reaches);
-      letIn = λ r area x n H s w k at h. letting r area x (w .tick .passing) n H s (w .tick .watched) (w .reaches) k at (h .place) (h .holder);
-      never = λ r area x n H s w. leaving r area x (w .passing) n H s (w .watched);
-      unwatched = unwatched;
-      many = λ r area calls n H s w. many r area calls n H s w .watched;
-      lockedOut = λ r area calls n H s w k at e h. locked-out _ n k at e (h .place) (many r area calls n H s w .locks at (h .holder));
-      first = λ r area calls x n H s w. first r area calls x n H s w .shuts;
-      firstLetIn = λ r area calls x n H s w k at h. first r area calls x n H s w .frees k at (h .place) (h .holder);
+      heard = heard;
+      counts = counts;
+      waits = waits;
+      never = never;
+      closes = λ c reading H g a. closes c H g reading a;
+      frees = λ c reading H g a. frees c H g reading a;
+      letIn = λ c reading H g a. letIn c H g reading a;
       halfMessage = half;
-      passing = λ r area x a. passing r area x (a .obeys) (a .sound);
-      refusing = λ r area x a. refusing r area x (a .obeys) (a .sound);
-      thirtySeconds = exactly 30000 89999 90000 (omega arith) (omega arith);
-      twoSeconds = exactly 2000 5999 6000 (omega arith) (omega arith);
-      mostSeconds = exactly 65535000 196604999 196605000 (omega arith) (omega arith);
-      mostMilliseconds = exactly 4294967295 12884901884 12884901885 (omega arith) (omega arith);
+      passing = λ r area x a. timely r area x (a .obeys) (a .sound);
+      refusing = λ r area x a. back r area x (a .obeys) (a .sound);
+      twoSeconds = exactly keepAlive2s 2000 5999 6000 (sets-2 .0) refl (sets-2 .1) (omega arith) (omega arith);
+      thirtySeconds = exactly keepAlive30s 30000 89999 90000 (sets-30 .0) refl (sets-30 .1) (omega arith) (omega arith);
+      mostSeconds = exactly mostInSeconds 65535000 196604999 196605000 (sets-seconds .0) refl (sets-seconds .1) (omega arith) (omega arith);
+      mostMilliseconds = exactly mostInMilliseconds 4294967295 12884901884 12884901885 (sets-milliseconds .0) refl (sets-milliseconds .1) (omega arith) (omega arith);
+      lock = lock;
+      reply = reply;
       around = refl;
     }

@@ -40,6 +40,8 @@ use Rattle.device.specs.Closure.{isLockOf, locksOf, Stays}
 use Rattle.device.specs.declared.Device.{Device}
 use Rattle.device.proofs.Closures.{closure-frees}
 use Rattle.device.proofs.Commands.{neither-fails}
+use Rattle.replies.specs.Bytes.{leastOutput}
+use Rattle.stream.specs.Machine.{deliver}
 use Rattle.endpoint.specs.State.{recordObeys, closedState}
 use Rattle.endpoint.specs.Outcome.{Outcome}
 use Rattle.endpoint.specs.Calls.{openedBy, openCall, closeCall}
@@ -51,6 +53,7 @@ use Rattle.reset.specs.Datagram.{datagramCall}
 use Rattle.endpoint.specs.declared.Record.{Record}
 use Rattle.promise.proofs.DeviceLaws.{length-close}
 use Rattle.promise.proofs.Locks.{other-holds}
+use Rattle.technician.specs.Silence.{isSilent}
 use Rattle.promise.proofs.Ways.{delivery-ways, taking-ways, done-ways, run-ways}
 
 -- ---- what a connection holds while it stays
@@ -285,12 +288,25 @@ datagram-call r area g n a =
     P : Outcome → Type 0
     P o = Same n (r .device) (o .state .device)
 
-pub deliver-call : (r : Record) (area : List ℕ) (k : ℕ) (piece out : List ℕ) (n : ℕ) → (not (eqb k n) || not (settled (decide (undecidedOf area k (heldAt r k) ++ piece)))) ≡ true → liveAt (r .device .connections) n ≡ true
-    → Same n (r .device) (deliverCall r area k piece out .state .device)
-deliver-call r area k piece out n a l = go (eqb k n) refl a
+-- a piece whose output is too small is refused
+refused-piece : (r : Record) (area : List ℕ) (k : ℕ) (piece out : List ℕ) → ltb (length out) leastOutput ≡ true → deliverCall r area k piece out .state .device ≡ r .device
+unfolding deliverCall
+refused-piece r area k piece out e =
+    rw e
+    (either P (recordObeys r) _ _ (either P (areaSound (r .held) area) _ _ (either P (liveAt (r .device .connections) k) _ _ refl refl) refl) refl)
   where
-    go : (b : Bool) → eqb k n ≡ b → (not b || not (settled (decide (undecidedOf area k (heldAt r k) ++ piece)))) ≡ true → Same n (r .device) (deliverCall r area k piece out .state .device)
-    go false e a = deliver-same n k e r area piece out l
-    go true e a =
+    P : Outcome → Type 0
+    P o = o .state .device ≡ r .device
+
+pub deliver-call : (r : Record) (area : List ℕ) (k : ℕ) (piece out : List ℕ) (n : ℕ) → isSilent n r area (deliver k piece out) ≡ true → liveAt (r .device .connections) n ≡ true
+    → Same n (r .device) (deliverCall r area k piece out .state .device)
+unfolding isSilent
+deliver-call r area k piece out n a l = go (eqb k n) refl (ltb (length out) leastOutput) refl a
+  where
+    go : (b : Bool) → eqb k n ≡ b → (s : Bool) → ltb (length out) leastOutput ≡ s
+        → (not b || (s || not (settled (decide (undecidedOf area k (heldAt r k) ++ piece))))) ≡ true → Same n (r .device) (deliverCall r area k piece out .state .device)
+    go false e s f a = deliver-same n k e r area piece out l
+    go true e true f a = rw (refused-piece r area k piece out f) (same-refl n (r .device))
+    go true e false f a =
         let u = unsettled (decide (undecidedOf area k (heldAt r k) ++ piece)) (not-true _ a) in
         rw (half r area k piece out u) (same-refl n (r .device))

@@ -1,32 +1,82 @@
 -- A tick and a connection that is watched, or that set no heartbeat: for Technician. Assumes nothing.
-use Prim.Native.Nat.{ℕ, _+_, _*_, _<_, _≤_}
-use mathlib.Core.Path.{_≡_, sym, ap, _∙_}
-use mathlib.Core.Bool.{true, false, not}
-use mathlib.Core.List.{List}
+use Prim.Native.Nat.{_-_, ℕ, _+_, _*_, _<_, _≤_}
+use mathlib.Core.Path.{_≡_, refl, sym, ap, _∙_}
+use mathlib.Core.Bool.{Bool, true≢false, true, false, not}
+use mathlib.Core.List.{List, map}
 use native.Mathlib.Omega.{arith}
 use lib.Dec.{eqb, leb}
-use lib.ListN.{length, getD}
-use borrow.Author.Tests.{ne-eqb, le-leb, lt-leb, not-true, not-false}
+use lib.ListN.{length, getD, List·getD-map}
+use borrow.Author.Tests.{ne-eqb, le-leb, lt-leb, not-false}
 use Rattle.connection.specs.State.{closed, liveAt}
-use Rattle.connection.specs.Supervision.{closesAt}
+use Rattle.connection.specs.Supervision.{closesAt, connectionTicked}
 use Rattle.connection.specs.declared.Connection.{Connection}
 use Rattle.connection.proofs.Keeps.{supervision-kept}
-use Rattle.device.specs.State.{livesIn}
-use Rattle.device.specs.Time.{tickOf}
-use Rattle.device.specs.Closure.{Stays}
+use Rattle.area.specs.Area.{areaSound}
+use Rattle.holders.specs.Holders.{holderObeys, sweptHolder}
+use Rattle.device.specs.State.{sweepOf, livesIn}
+use Rattle.device.specs.Time.{tickStep, tickOf}
+use Rattle.device.specs.declared.Device.{Device}
+use Rattle.device.specs.declared.Ticking.{Ticking}
+use Rattle.device.specs.declared.Ticking.the-variants as ticks
+use Rattle.device.specs.Closure.{Stays, Passing}
 use Rattle.device.proofs.Closures.{closure-frees}
 use Rattle.stream.specs.Machine.{asked}
-use Rattle.endpoint.specs.Calls.{tickCall}
+use Rattle.endpoint.specs.State.{recordObeys}
+use Rattle.endpoint.specs.Calls.{tickedBy, tickCall}
 use Rattle.endpoint.specs.declared.Record.{Record}
 use Rattle.endpoint.proofs.States.{live-low}
 use Rattle.promise.specs.Rulebook.{ticking, bitOf, shut, Fine}
 use Rattle.promise.specs.Ticks.{stepAt, passes}
-use Rattle.promise.specs.Locks.{lockStatus}
 use Rattle.promise.proofs.OpenConnections.{lives-get, length-lives}
+use Rattle.promise.proofs.Channels.{swept-none}
 use Rattle.promise.proofs.DeviceLaws.{device-laws}
 use Rattle.promise.proofs.Ticks as ticked
 use Rattle.promise.proofs.Ticks.{maskAt, Ticks, passed, held-none, ticked-at, never-idle}
-use Rattle.technician.specs.Technician.{Watched, Closes, Leaves}
+use Rattle.technician.specs.Technician.{Closes}
+
+-- connection n of a device of eight is open, with heartbeat H above zero and that silence
+pub record Followed (d : Device) (n H silence : ℕ) : Type 0 where
+  pub eight : length (d .connections) ≡ 8
+  pub live : liveAt (d .connections) n ≡ true
+  pub above : 0 < H
+  pub beat : getD (d .connections) n closed .beat ≡ H
+  pub silent : getD (d .connections) n closed .silence ≡ silence
+
+-- the tick leaves connection n open, with that silence, the same H, and its locks and entries
+pub record Leaves (r : Record) (area : List ℕ) (reading n H silence : ℕ) : Type 0 where
+  pub watched : Followed (tickCall r area reading .state .device) n H silence
+  pub stays : Stays n (r .device) (tickCall r area reading .state .device)
+
+-- a tick that is refused changes nothing of the device
+module _ (r : Record) (area : List ℕ) (reading : ℕ) where
+  pub refused-tick : passes r area reading ≡ false → tickCall r area reading .state .device ≡ r .device
+  unfolding passes tickCall tickedBy
+  refused-tick p = go (recordObeys r) refl (areaSound (r .held) area) refl (tickOf (r .device) reading .answer) refl
+    where
+      go : (o : Bool) → recordObeys r ≡ o → (a : Bool) → areaSound (r .held) area ≡ a → (x : Ticking) → tickOf (r .device) reading .answer ≡ x
+          → tickCall r area reading .state .device ≡ r .device
+      go false o a s x e = rw o
+      go true o false s x e = rw (o, s)
+      go true o true s (ticks.Closed m) e = let z : true ≡ false = rw (o, s, e) at p in absurd (true≢false z)
+      go true o true s ticks.ClockBack e = rw (o, s, e)
+      go true o true s ticks.Overrun e = rw (o, s, e)
+
+-- the holder at a place once swept
+swept-at : (cs : List Connection) (hs : List ℕ) (at : ℕ) → getD (map (sweptHolder cs) hs) at 0 ≡ sweptHolder cs (getD hs at 0)
+unfolding sweptHolder
+swept-at cs hs at =
+    ap (λ (z : ℕ). getD (map (sweptHolder cs) hs) at z) (sym (swept-none cs)) ∙ List·getD-map (sweptHolder cs) hs at 0
+
+-- the lock of a connection that a tick closes
+swept-gone : (r : Record) (reading n at : ℕ) → Passing (r .device) reading → liveAt (tickOf (r .device) reading .device .connections) n ≡ false
+    → getD (r .device .holders) at 0 ≡ n + 1 → getD (tickOf (r .device) reading .device .holders) at 0 ≡ 0
+unfolding tickStep sweepOf sweptHolder holderObeys
+swept-gone r reading n at t s e =
+    let cs = map (connectionTicked (stepAt r reading)) (r .device .connections) in
+    let z : liveAt cs n ≡ false = rw (t .early, t .fits) at s in
+    let b : n + 1 - 1 ≡ n = omega arith in
+    rw (t .early, t .fits)
+    (swept-at cs (r .device .holders) at ∙ rw (e, b, z, ne-eqb (n + 1) 0 (λ q. omega arith)))
 
 module _ (r : Record) (area : List ℕ) (reading : ℕ) (p : passes r area reading ≡ true) where
   t : Ticks r area reading
@@ -42,7 +92,7 @@ module _ (r : Record) (area : List ℕ) (reading : ℕ) (p : passes r area readi
       idle : closesAt (stepAt r reading) (getD (r .device .connections) n closed) ≡ false
       idle = never-idle (stepAt r reading) (getD (r .device .connections) n closed) z
 
-  module _ (n H s : ℕ) (w : Watched (r .device) n H s) where
+  module _ (n H s : ℕ) (w : Followed (r .device) n H s) where
     fine : Fine (r .device)
     fine = record { obeys = t .obeys; eight = w .eight }
 
@@ -76,8 +126,11 @@ module _ (r : Record) (area : List ℕ) (reading : ℕ) (p : passes r area readi
           bytes = rw (ticked.counts r area reading p) (held-none (livesIn e) (r .held) n low (lives-get e n ∙ g .shut));
         }
 
-    pub letting : 3 * H ≤ s + stepAt r reading → (k at : ℕ) → at < 8 → getD (r .device .holders) at 0 ≡ n + 1 → lockStatus (tickCall r area reading .state .device) k at ≡ 0
-    letting l k at h e = rw after (closure-frees .expiring (r .device) reading n k at (t .timely) (late l) h e)
+    -- what it held is free
+    pub freeing : 3 * H ≤ s + stepAt r reading → (at : ℕ) → getD (r .device .holders) at 0 ≡ n + 1 → getD (tickCall r area reading .state .device .holders) at 0 ≡ 0
+    freeing l at e =
+        let g = closure-frees .ticking (r .device) reading n (t .timely) (late l) in
+        rw after (swept-gone r reading n at (t .timely) (g .shut) e)
 
     pub leaving : s + stepAt r reading < 3 * H → Leaves r area reading n H (s + stepAt r reading)
     leaving l =
@@ -86,7 +139,7 @@ module _ (r : Record) (area : List ℕ) (reading : ℕ) (p : passes r area readi
         let g = closure-frees .staying (r .device) reading n (t .timely) (w .live) k in
         let q = ticked-at r reading n (t .timely) in
         let m = supervision-kept .counting (stepAt r reading) c beats k in
-        let v : Watched (tickOf (r .device) reading .device) n H (s + stepAt r reading) =
+        let v : Followed (tickOf (r .device) reading .device) n H (s + stepAt r reading) =
         record {
           eight = fine-after .eight;
           live = g .live;
@@ -94,10 +147,4 @@ module _ (r : Record) (area : List ℕ) (reading : ℕ) (p : passes r area readi
           beat = ap (λ (x : Connection). x .beat) q ∙ m .1 ∙ w .beat;
           silent = ap (λ (x : Connection). x .silence) q ∙ m .0 ∙ ap (λ (x : ℕ). x + stepAt r reading) (w .silent);
         } in
-        record {
-          mask = maskAt r reading;
-          answer = ticked.answer r area reading p;
-          bit = not-true (bitOf (maskAt r reading) n) (sym bit-is ∙ g .live);
-          watched = rw after v;
-          stays = rw after g;
-        }
+        record { watched = rw after v; stays = rw after g }

@@ -1,1 +1,3 @@
+pub mod Silence
+pub mod Lock
 pub mod Technician
