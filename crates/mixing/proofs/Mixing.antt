@@ -12,8 +12,9 @@ use Rattle.frame.proofs.Bytes.{part-waits}
 use Rattle.area.specs.Area.{undecidedOf}
 use Rattle.device.specs.declared.Device.{Device}
 use Rattle.replies.specs.Bytes.{leastOutput}
-use Rattle.stream.specs.Machine.{deliver, ask, handed, asked, Answer, more, denied, gave, Held, put, only, whole, delivered, step}
+use Rattle.stream.specs.Machine.{deliver, ask, handed, asked, Held, put, only}
 use Rattle.stream.specs.Promise.{AllBytes}
+use Rattle.stream.specs.Scaffold.{Answer, more, denied, gave, whole, delivered, step}
 use Rattle.stream.specs.Lent.{countsOf}
 use Rattle.stream.proofs.Stream.{put-elim}
 use Rattle.stream.proofs.Lent.{put-same, put-other}
@@ -22,7 +23,8 @@ use Rattle.endpoint.specs.Deliver.{heldAt}
 use Rattle.endpoint.specs.declared.Record.{Record}
 use Rattle.endpoint.proofs.States.{live-low}
 use Rattle.promise.specs.Rulebook.{Asked, Given, given, rule, open?, admit}
-use Rattle.promise.specs.Calls.{HostCall, callOf, runCalls, recordWith, areaWith, outcomeOf, withTaken}
+use Rattle.promise.specs.Calls.{HostCall, callOf, runCalls, recordWith, areaWith, withTaken}
+use Rattle.promise.specs.Scaffold.{outcomeOf}
 use Rattle.promise.specs.Kept.{heldIn, Kept}
 use Rattle.promise.specs.Whole.{hostSees}
 use Rattle.promise.proofs.OpenConnections.{GoodAt}

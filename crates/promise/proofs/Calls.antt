@@ -1,4 +1,4 @@
--- Every call, on a lent state, is the step of the machine over pieces: for Kept, Stream and Closure. Assumes nothing.
+-- Every call, on a lent state, is the step of the machine over pieces: for Kept, Whole and Closure. Assumes nothing.
 use Prim.Native.Nat.{ℕ}
 use mathlib.Core.Path.{_≡_, refl, sym, _∙_, fun-ext}
 use mathlib.Core.Bool.{Bool, cond, true, false, true≢false}
@@ -18,7 +18,8 @@ use Rattle.device.specs.declared.Opening.{Opening}
 use Rattle.device.specs.declared.Opening.the-variants as opens
 use Rattle.device.specs.declared.Ticking.{Ticking}
 use Rattle.device.specs.declared.Ticking.the-variants as ticks
-use Rattle.stream.specs.Machine.{deliver, ask, asked, Answer, Held, none-held, put, only, whole, delivered, step}
+use Rattle.stream.specs.Machine.{deliver, ask, asked, Held, none-held, put, only}
+use Rattle.stream.specs.Scaffold.{Answer, whole, delivered, step}
 use Rattle.stream.specs.Lent.{flat, countsOf}
 use Rattle.stream.proofs.Lent.{clear-flat, put-same, put-other, set-counted, closed-flat, held-counted, counted-none, flat-none}
 use Rattle.endpoint.specs.State.{freshState, closedState}
@@ -33,7 +34,8 @@ use Rattle.reset.specs.Datagram.{restarted, datagramCall}
 use Rattle.endpoint.proofs.States.{live-low}
 use Rattle.promise.specs.Rulebook as rules
 use Rattle.promise.specs.Rulebook.{Ask, opening, closing, ticking, taking, datagram, Given, given, rule, openBy, closeBy, takeBy, resetBy, open?, admit}
-use Rattle.promise.specs.Calls.{HostCall, callOf, recordWith, areaWith, outcomeOf}
+use Rattle.promise.specs.Calls.{HostCall, callOf, recordWith, areaWith}
+use Rattle.promise.specs.Scaffold.{outcomeOf}
 use Rattle.promise.proofs.OpenConnections.{GoodAt, record-obeys, only-same, live-closed, live-gone, live-alike, lives-sent, lives-notified, open-still, lives-eight, fresh-shut}
 use Rattle.promise.proofs.DeviceLaws.{length-tick}
 use Rattle.promise.proofs.Deliveries.{small, area-sound, taken-told}

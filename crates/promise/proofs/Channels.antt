@@ -44,20 +44,18 @@ use Rattle.serve.specs.Serve.{ranWith, ranFirst, lastOf}
 use Rattle.serve.specs.Sound.{Ruled, commandsOf, keptAlive, soundOf}
 use Rattle.stream.specs.Machine.{handed, asked, none-held, rules}
 use Rattle.stream.specs.Promise.{AllBytes}
-use Rattle.stream.specs.Lent.{flat, countsOf}
-use Rattle.endpoint.specs.State.{stateOf, freshState}
-use Rattle.endpoint.specs.Outcome.{Outcome}
+use Rattle.endpoint.specs.State.{freshState}
 use Rattle.replies.specs.Bytes.{leastOutput}
 use Rattle.taking.specs.Dispatch.{notifiedOf}
 use Rattle.endpoint.specs.declared.Record.{Record}
 use Rattle.promise.specs.Rulebook as ruling
-use Rattle.promise.specs.Rulebook.{opening, closing, ticking, taking, datagram, Asked, Given, messageBy, openBy, closeBy, resetBy, rule}
+use Rattle.promise.specs.Rulebook.{opening, closing, ticking, taking, datagram, Asked, messageBy, openBy, closeBy, resetBy, rule}
 use Rattle.promise.specs.Calls.{HostCall, runCalls}
-use Rattle.promise.specs.Stream.{wholeCalls}
+use Rattle.promise.specs.Whole.{wholesOf}
 use Rattle.promise.specs.Reset.{asksWith, asksOver, asksIn, asksFor, nobodyAsks}
 use Rattle.promise.proofs.OpenConnections.{getD-alike}
 use Rattle.promise.proofs.Ways.{take-ways, done-ways, run-ways}
-use Rattle.promise.proofs.Stream.{stream-theorem}
+use Rattle.promise.proofs.Whole.{demand-three}
 
 -- ---- a holder at a place
 pub swept-none : (cs : List Connection) → sweptHolder cs 0 ≡ 0
@@ -181,13 +179,8 @@ rules-free d at [] e a = e
 rules-free d at (w ∷ ws) e a =
     rules-free (rule d w .0) at ws (whole-free d at w e (not-true (asksFor at w) (and-left (not (asksFor at w)) _ a))) (and-right (not (asksFor at w)) _ a)
 
-pub calls-free : (reading : ℕ) (cs : List HostCall) → AllBytes cs → (at : ℕ) → nobodyAsks at (wholeCalls (freshOf reading) none-held cs) ≡ true
+pub calls-free : (reading : ℕ) (cs : List HostCall) → AllBytes cs → (at : ℕ) → nobodyAsks at (wholesOf (freshOf reading) none-held cs) ≡ true
     → getD (runCalls (freshState reading) (zeros areaBytes) cs .0 .0 .device .holders) at 0 ≡ 0
 calls-free reading cs b at a =
-    let d = freshOf reading in
-    let good = stream-theorem .fresh reading in
-    let same : runCalls (freshState reading) (zeros areaBytes) cs ≡ runCalls (stateOf d (countsOf none-held 8)) (flat none-held 8) cs =
-    rw (stream-theorem .freshState reading, stream-theorem .freshArea) refl in
-    ap (λ (x : (Record × List ℕ) × List Outcome). getD (x .0 .0 .device .holders) at 0) (same ∙ stream-theorem .real d none-held cs good b)
-    ∙ sym (ap (λ (x : Device × List Given). getD (x .0 .holders) at 0) (stream-theorem .whole d none-held cs good b .same))
-    ∙ rules-free d at (wholeCalls d none-held cs) (fresh-free reading at) a
+    ap (λ (x : Record). getD (x .device .holders) at 0) (demand-three .fresh reading cs b .state)
+    ∙ rules-free (freshOf reading) at (wholesOf (freshOf reading) none-held cs) (fresh-free reading at) a

@@ -16,7 +16,8 @@ use Rattle.connection.specs.State.{liveAt}
 use Rattle.device.specs.State.{closeOf}
 use Rattle.device.specs.declared.Device.{Device}
 use Rattle.serve.specs.Sound.{soundOf}
-use Rattle.stream.specs.Machine.{deliver, Held, put, only, whole, delivered}
+use Rattle.stream.specs.Machine.{deliver, Held, put, only}
+use Rattle.stream.specs.Scaffold.{whole, delivered}
 use Rattle.stream.specs.Lent.{flat, countsOf}
 use Rattle.stream.proofs.Lent.{Small, put-same, put-other, getD-counted, set-counted, undecided-flat, clear-flat, put-flat, area-flat}
 use Rattle.endpoint.specs.Deliver.{withIntake}
@@ -24,7 +25,8 @@ use Rattle.delivery.specs.Intake.{messaged, deliveredBy, takenIn}
 use Rattle.endpoint.specs.declared.Record.{Record}
 use Rattle.endpoint.proofs.States.{live-low}
 use Rattle.promise.specs.Rulebook.{messageBy, rule, open?, admit}
-use Rattle.promise.specs.Calls.{recordWith, areaWith, withTaken, outcomeOf}
+use Rattle.promise.specs.Calls.{recordWith, areaWith, withTaken}
+use Rattle.promise.specs.Scaffold.{outcomeOf}
 use Rattle.promise.proofs.OpenConnections.{GoodAt, only-same, live-closed, live-sound}
 
 pub small : (d : Device) (h : Held) → GoodAt d h → Small h

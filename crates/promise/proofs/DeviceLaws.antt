@@ -1,4 +1,4 @@
--- The device keeps the laws that the stream theorem asks: for Calls, Kept, Stream, Ticks and Untouched. Assumes nothing.
+-- The device keeps the laws that the machine over pieces asks: for Calls, Kept and Ticks. Assumes nothing.
 use Prim.Native.Nat.{ℕ, _^_, _<_}
 use mathlib.Core.Path.{_≡_, refl, sym, ap, _∙_}
 use mathlib.Core.Bool.{Bool, cond, true, false, not, _&&_}
@@ -34,8 +34,7 @@ use Rattle.device.proofs.Keeps.{rules-kept}
 use Rattle.serve.specs.Sound.{soundOf}
 use Rattle.serve.proofs.Keeps.{sound-kept}
 use Rattle.stream.specs.Machine.{handed, asked}
-use Rattle.stream.specs.Promise.{Decides, Apt}
-use Rattle.stream.specs.Scaffold.{Laws}
+use Rattle.stream.specs.Scaffold.{Decides, Apt, Laws}
 use Rattle.replies.specs.Bytes.{leastOutput}
 use Rattle.taking.specs.Dispatch.{subscriptionAt, notifiedOf}
 use Rattle.endpoint.proofs.States.{live-low}
@@ -106,7 +105,7 @@ fine-notified : (d : Device) (i : ℕ) → Fine d → Fine (notifiedOf d i)
 unfolding notifiedOf
 fine-notified d i f = fine-sent (toldAt d i) (subscriptionAt d i .connection) (fine-told d i f)
 
-keeps : (d : Device) (w : Asked) → Fine d → Apt rule open? admit d w → Fine (rule d w .0)
+keeps : (d : Device) (w : Asked) → Fine d → Apt admit d w → Fine (rule d w .0)
 unfolding rule openBy closeBy rules.tickBy resetBy
 keeps d (handed n m out) f a = keeps-message d n m out f (admit-live d n out (a .0)) (a .1) (a .2) (decide m) refl
 keeps d (asked opening) f a = go (openOf d .answer)
@@ -191,7 +190,7 @@ message-tells d n m out k l Undecided = l
 message-tells d n m out k l (Faulty f t) = close-tells d n k l
 message-tells d n m out k l (Sound t) = live-sound d n m k ∙ l
 
-tells : (d : Device) (w : Asked) (k : ℕ) → Fine d → Apt rule open? admit d w → open? d k ≡ true → open? (rule d w .0) k ≡ not (shut w (rule d w .1) k)
+tells : (d : Device) (w : Asked) (k : ℕ) → Fine d → Apt admit d w → open? d k ≡ true → open? (rule d w .0) k ≡ not (shut w (rule d w .1) k)
 unfolding rule shut openBy closeBy resetBy
 tells d (handed n m out) k f a l = message-tells d n m out k l (decide m)
 tells d (asked opening) k f a l = go (openOf d .answer)

@@ -1,4 +1,4 @@
--- Every record and area that refusals 1 and 2 let pass is a device with some bytes held: for Kept, Stream and Closure. Assumes nothing.
+-- Every record and area that refusals 1 and 2 let pass is a device with some bytes held: for Kept, Whole and Closure. Assumes nothing.
 use Prim.Native.Nat.{ℕ, zero, suc, _-_, _≤_, _<_}
 use mathlib.Core.Path.{_≡_, refl, sym, ap, _∙_}
 use mathlib.Core.Bool.{Bool, cond, true, false, not, true≢false}

@@ -11,8 +11,9 @@ use Rattle.frame.proofs.Bytes.{nil-waits}
 use Rattle.area.specs.Area.{partBytes, areaBytes}
 use Rattle.device.specs.State.{freshOf}
 use Rattle.device.specs.declared.Device.{Device}
-use Rattle.stream.specs.Machine.{deliver, ask, Answer, Held, none-held, step}
+use Rattle.stream.specs.Machine.{deliver, ask, Held, none-held}
 use Rattle.stream.specs.Promise.{Bytes}
+use Rattle.stream.specs.Scaffold.{Answer, step}
 use Rattle.stream.specs.Lent.{partHolding, flat, countsOf}
 use Rattle.stream.proofs.Bytes.{octets-nil, octets-append}
 use Rattle.stream.proofs.Stream.{step-good}
@@ -23,7 +24,8 @@ use Rattle.endpoint.specs.Outcome.{Outcome}
 use Rattle.endpoint.specs.Calls.{clearedArea}
 use Rattle.endpoint.specs.declared.Record.{Record}
 use Rattle.promise.specs.Rulebook.{Given, rule, open?, admit, shut, Fine}
-use Rattle.promise.specs.Calls.{HostCall, callOf, recordWith, areaWith, outcomeOf}
+use Rattle.promise.specs.Calls.{HostCall, callOf, recordWith, areaWith}
+use Rattle.promise.specs.Scaffold.{outcomeOf}
 use Rattle.promise.specs.Kept.{heldIn, Kept, CallsKeep}
 use Rattle.promise.proofs.OpenConnections.{GoodAt, record-obeys}
 use Rattle.promise.proofs.Deliveries.{area-sound}

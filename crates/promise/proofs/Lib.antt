@@ -6,7 +6,6 @@ pub mod Deliveries
 pub mod Calls
 pub mod HeldBytes
 pub mod Kept
-pub mod Stream
 pub mod Whole
 pub mod Ticks
 pub mod Locks

@@ -24,16 +24,15 @@ use Rattle.serve.specs.Sound.{soundOf}
 use Rattle.serve.proofs.Keeps.{sound-kept}
 use Rattle.device.proofs.Closures.{closure-frees}
 use Rattle.stream.specs.Machine.{Held, only}
+use Rattle.stream.specs.Scaffold.{livesOf, Good}
 use Rattle.stream.specs.Lent.{countsOf}
-use Rattle.stream.specs.Scaffold.{livesOf}
-use Rattle.stream.specs.Promise.{Good}
 use Rattle.stream.proofs.Lent.{getD-counted, length-lives-of, getD-lives-of}
 use Rattle.taking.specs.Dispatch.{subscriptionAt, notifiedOf}
 use Rattle.endpoint.specs.State.{stateOf, recordObeys}
-use Rattle.promise.specs.Rulebook.{rule, open?, admit, shut, Fine}
+use Rattle.promise.specs.Rulebook.{open?, shut, Fine}
 
 abbrev pub GoodAt : Device → Held → Type 0
-GoodAt d h = Good rule open? admit shut Fine d h
+GoodAt d h = Good open? Fine d h
 
 pub lives-get : (d : Device) (k : ℕ) → getD (livesIn d) k false ≡ liveAt (d .connections) k
 unfolding livesIn liveAt

@@ -1,7 +1,7 @@
 -- ResetByKey and RackFreeAgain. Assumes nothing.
 use Prim.Native.Nat.{ℕ, _+_, _<_}
 use mathlib.Core.Path.{_≡_, refl, sym, ap, _∙_, fun-ext}
-use mathlib.Core.Bool.{Bool, true, false}
+use mathlib.Core.Bool.{Bool, true, false, true≢false}
 use mathlib.Core.List.{List, [], _∷_}
 use borrow.Author.Tests.{eq-eqb, lt-ltb}
 use lib.Dec.{eqb}
@@ -13,17 +13,19 @@ use Rattle.mechanism.specs.State.{disarmed}
 use Rattle.mechanism.specs.Datagram as datagrams
 use Rattle.mechanism.specs.declared.Mechanism.{Mechanism}
 use Rattle.mechanism.proofs.Kept.{resets-exactly}
+use Rattle.connection.specs.State.{liveAt}
 use Rattle.device.specs.State.{freshOf}
 use Rattle.device.specs.declared.Device.{Device}
-use Rattle.stream.specs.Machine.{ask, Held, none-held, only, whole, step}
+use Rattle.stream.specs.Machine.{ask, Held, none-held, only, rules}
+use Rattle.stream.specs.Promise.{AllBytes}
 use Rattle.endpoint.specs.State.{freshState, recordObeys}
 use Rattle.numbers.specs.Refusal.{badRecord, badArea}
 use Rattle.endpoint.specs.Outcome.{Outcome, outcome, refused}
 use Rattle.reset.specs.Datagram.{restarted, datagramCall}
 use Rattle.endpoint.specs.declared.Record.{Record}
-use Rattle.promise.specs.Rulebook.{datagram, rule, open?, admit, resetBy}
+use Rattle.promise.specs.Rulebook.{datagram, rule, resetBy}
 use Rattle.promise.specs.Calls.{HostCall, callOf, runCalls}
-use Rattle.promise.specs.Stream.{wholeCalls}
+use Rattle.promise.specs.Whole.{turnOf, deviceBy, turnsOf, wholesIn, wholesOf, byRules, bytesWaiting}
 use Rattle.promise.specs.Reset.{Matches, Resets, ResetByKey, nobodyAsks, RackFreeAgain}
 use Rattle.promise.proofs.OpenConnections.{fresh-shut}
 use native.Mathlib.Omega.{arith}
@@ -36,7 +38,6 @@ use Rattle.device.specs.Run as commands
 use Rattle.device.specs.declared.Ran.{Ran}
 use Rattle.device.proofs.Closures.{free-locks}
 use Rattle.device.proofs.Commands.{lock-other, lock-done}
-use Rattle.stream.specs.Promise.{AllBytes}
 use Rattle.promise.specs.Kept.{Accepted}
 use Rattle.promise.specs.Locks.{lockStatus}
 use Rattle.promise.proofs.Locks.{locked-out}
@@ -145,9 +146,14 @@ unfolding runCalls callOf restarted
 anew r area g cs a = rw (done r area g a) refl
 
 nobody : (d : Device) (h : Held) (g : List ℕ) → datagrams.resets (d .mechanism) g ≡ true
-    → step rule open? admit d h (ask (datagram g)) .0 ≡ (freshOf (d .reading), none-held)
-unfolding step whole rule resetBy only
-nobody d h g m = rw m (ap (λ (x : Held). (freshOf (d .reading), x)) (fun-ext λ n. rw (fresh-shut (d .reading) n)))
+    → let one = ask (datagram g) ∷ [] in
+    (byRules d h one .0 ≡ freshOf (d .reading)) × (bytesWaiting d h one ≡ none-held)
+unfolding turnsOf turnOf deviceBy wholesIn rules rule resetBy only
+nobody d h g m = (rw m refl, none (datagrams.resets (d .mechanism) g) m)
+  where
+    none : (b : Bool) → b ≡ true → only (λ n. liveAt (resetBy b d .0 .connections) n) h ≡ none-held
+    none true e = fun-ext λ n. rw (fresh-shut (d .reading) n)
+    none false e = absurd (true≢false (sym e))
 
 pub reset-by-key : ResetByKey
 reset-by-key =
@@ -187,7 +193,7 @@ lock-holder d k at l h e s = go (isOther (getD (d .holders) at 0) k) refl
         ∙ getD-set-same (d .holders) at (k + 1) 0 h
 
 first-asks : (r : Record) (area g : List ℕ) (cs : List HostCall) → Resets r area g → AllBytes cs → (k at : ℕ) → at < 8
-    → nobodyAsks at (wholeCalls (freshOf (r .device .reading)) none-held cs) ≡ true
+    → nobodyAsks at (wholesOf (freshOf (r .device .reading)) none-held cs) ≡ true
     → lockStatus (runCalls r area (ask (datagram g) ∷ cs) .0 .0 .device) k at ≡ 0
 first-asks r area g cs e b k at h a =
     free-locks _ k at h

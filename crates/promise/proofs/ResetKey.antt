@@ -40,7 +40,7 @@ use Rattle.device.specs.declared.Ticking.{Ticking}
 use Rattle.device.specs.declared.Ticking.the-variants as ticks
 use Rattle.device.specs.declared.Ran.{Ran}
 use Rattle.serve.specs.Sound.{Ruled, soundOf}
-use Rattle.stream.specs.Machine.{deliver, ask, handed, asked, Held, rules}
+use Rattle.stream.specs.Machine.{deliver, ask, handed, asked, rules}
 use Rattle.stream.specs.Promise.{AllBytes}
 use Rattle.endpoint.specs.State.{stateOf, recordObeys, closedState}
 use Rattle.endpoint.specs.Outcome.{Outcome, outcome}
@@ -53,13 +53,14 @@ use Rattle.endpoint.specs.Take.{takeCall, withDispatch}
 use Rattle.reset.specs.Datagram.{datagramCall}
 use Rattle.endpoint.specs.declared.Record.{Record}
 use Rattle.promise.specs.Rulebook as ruling
-use Rattle.promise.specs.Rulebook.{opening, closing, ticking, taking, datagram, Asked, Given, messageBy, openBy, closeBy, resetBy, rule}
-use Rattle.promise.specs.Calls.{HostCall, callOf, runCalls, recordWith, areaWith}
-use Rattle.promise.specs.Stream.{GoodState, wholeCalls}
+use Rattle.promise.specs.Rulebook.{opening, closing, ticking, taking, datagram, Asked, messageBy, openBy, closeBy, resetBy, rule}
+use Rattle.promise.specs.Calls.{HostCall, callOf, runCalls}
+use Rattle.promise.specs.Kept.{heldIn, Kept}
+use Rattle.promise.specs.Whole.{wholesOf}
 use Rattle.promise.specs.ResetKey.{isArming, keyedBy, keyedWith, keyedOver, keyedIn, keyedMessage, latest, latestOver, LatestKeyCounts, AlikeButKey, Seen, seen, isNoReset, noReset, KeyStaysInside}
 use Rattle.promise.proofs.Mechanism.{arming, close-frame, open-frame, tick-frame, run-frame, sound-frame}
 use Rattle.promise.proofs.Ways.{take-ways}
-use Rattle.promise.proofs.Stream.{stream-theorem}
+use Rattle.promise.proofs.Whole.{demand-three}
 
 -- ---- the latest key
 
@@ -106,12 +107,11 @@ unfolding rules latestOver
 ruled-over d [] = refl
 ruled-over d (w ∷ ws) = ruled-over (rule d w .0) ws ∙ ap (λ (k : Mechanism). latestOver k ws) (whole d w)
 
-calls-key : (d : Device) (h : Held) (cs : List HostCall) → GoodState d h → AllBytes cs
-    → runCalls (recordWith d h) (areaWith h) cs .0 .0 .device .mechanism ≡ latestOver (d .mechanism) (wholeCalls d h cs)
-calls-key d h cs good b =
-    ap (λ (x : (Record × List ℕ) × List Outcome). x .0 .0 .device .mechanism) (stream-theorem .real d h cs good b)
-    ∙ sym (ap (λ (x : Device × List Given). x .0 .mechanism) (stream-theorem .whole d h cs good b .same))
-    ∙ ruled-over d (wholeCalls d h cs)
+calls-key : (r : Record) (area : List ℕ) (cs : List HostCall) → Kept r area → AllBytes cs
+    → runCalls r area cs .0 .0 .device .mechanism ≡ latestOver (r .device .mechanism) (wholesOf (r .device) (heldIn r area) cs)
+calls-key r area cs w b =
+    ap (λ (x : Record). x .device .mechanism) (demand-three .later r area cs w b .state)
+    ∙ ruled-over (r .device) (wholesOf (r .device) (heldIn r area) cs)
 
 pub latest-key-counts : LatestKeyCounts
 latest-key-counts = record { arming = arming; command = command; whole = whole; calls = calls-key }

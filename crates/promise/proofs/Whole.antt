@@ -13,14 +13,16 @@ use Rattle.frame.proofs.Bytes.{part-waits, before-waits, beyond}
 use Rattle.area.specs.Area.{areaBytes}
 use Rattle.device.specs.State.{freshOf}
 use Rattle.device.specs.declared.Device.{Device}
-use Rattle.stream.specs.Machine.{deliver, ask, handed, asked, Answer, Held, none-held, put, only, rules, whole, delivered, step}
+use Rattle.stream.specs.Machine.{deliver, ask, handed, asked, Held, none-held, put, only, rules}
 use Rattle.stream.specs.Promise.{Bytes, AllBytes}
+use Rattle.stream.specs.Scaffold.{Answer, whole, delivered, step}
 use Rattle.stream.specs.Lent.{countsOf}
 use Rattle.endpoint.specs.State.{freshState, stateOf}
 use Rattle.endpoint.specs.Outcome.{Outcome}
 use Rattle.endpoint.specs.declared.Record.{Record}
 use Rattle.promise.specs.Rulebook.{Given, rule, open?, admit}
-use Rattle.promise.specs.Calls.{HostCall, callOf, runCalls, recordWith, areaWith, outcomeOf}
+use Rattle.promise.specs.Calls.{HostCall, callOf, runCalls, recordWith, areaWith}
+use Rattle.promise.specs.Scaffold.{outcomeOf}
 use Rattle.promise.specs.Kept.{heldIn, Kept}
 use Rattle.promise.specs.Whole.{upTo, Turn, tells, hands, turnBy, turnOf, deviceBy, turnsOf, wholesIn, withBytes, toldIn, hostSees, EndsDeciding, AllEndDeciding, byRules, bytesWaiting, AsRules, DemandThree}
 use Rattle.promise.proofs.OpenConnections.{GoodAt, only-same}

@@ -1,13 +1,11 @@
--- R2, R81. The endpoint's calls as one function, and what each is to give.
+-- R2, R81. The endpoint's calls as one function, and lists of them.
 use Prim.Native.Nat.{ℕ}
 use mathlib.Core.List.{List, [], _∷_}
-use lib.ListN.{length, set}
+use lib.ListN.{set}
 use Rattle.connection.specs.State.{connectionCount}
 use Rattle.device.specs.declared.Device.{Device}
-use Rattle.stream.specs.Machine.{Call, deliver, ask, Answer, more, denied, gave, Held}
+use Rattle.stream.specs.Machine.{Call, deliver, ask, Held}
 use Rattle.stream.specs.Lent.{flat, countsOf}
-use Rattle.answers.specs.Numbers.{deliveryNumbers}
-use Rattle.answers.specs.declared.Delivery.the-variants as deliveries
 use Rattle.endpoint.specs.State.{stateOf}
 use Rattle.endpoint.specs.Outcome.{Outcome, outcome}
 use Rattle.endpoint.specs.Calls.{openCall, closeCall, tickCall}
@@ -15,7 +13,7 @@ use Rattle.endpoint.specs.Deliver.{deliverCall}
 use Rattle.endpoint.specs.Take.{takeCall}
 use Rattle.reset.specs.Datagram.{datagramCall}
 use Rattle.endpoint.specs.declared.Record.{Record}
-use Rattle.promise.specs.Rulebook.{Ask, opening, closing, ticking, taking, datagram, Given}
+use Rattle.promise.specs.Rulebook.{Ask, opening, closing, ticking, taking, datagram}
 
 -- R2. A call of a host, with the output that it lends.
 abbrev pub HostCall : Type 0
@@ -49,12 +47,3 @@ recordWith d h = stateOf d (countsOf h connectionCount)
 -- R4. The area with h held.
 abbrev pub areaWith : Held → List ℕ
 areaWith h = flat h connectionCount
-
--- R81. What a call is to give, where the machine over pieces comes to device d with h held and that answer.
-unfoldable pub outcomeOf : HostCall → Device → Held → Answer Given → Outcome
-outcomeOf (deliver n piece out) d h more = outcome (deliveryNumbers (deliveries.More (length piece))) (recordWith d h) (areaWith h) out
-outcomeOf (deliver n piece out) d h (denied q) = outcome (q ∷ []) (recordWith d h) (areaWith h) out
-outcomeOf (deliver n piece out) d h (gave k o) = outcome (withTaken k (o .answer)) (recordWith d h) (areaWith h) (o .output)
-outcomeOf (ask a) d h more = outcome [] (recordWith d h) (areaWith h) []
-outcomeOf (ask a) d h (denied q) = outcome (q ∷ []) (recordWith d h) (areaWith h) []
-outcomeOf (ask a) d h (gave k o) = outcome (o .answer) (recordWith d h) (areaWith h) (o .output)

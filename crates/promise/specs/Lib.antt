@@ -1,7 +1,7 @@
 pub mod Rulebook
 pub mod Calls
 pub mod Kept
-pub mod Stream
+pub mod Scaffold
 pub mod Whole
 pub mod Examples
 pub mod Ticks

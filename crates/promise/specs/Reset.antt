@@ -24,7 +24,7 @@ use Rattle.objects.specs.Methods.{methodNumber, lockMethod, firstMute}
 use Rattle.device.specs.State.{muteCount, freshOf}
 use Rattle.device.specs.Run as commands
 use Rattle.device.specs.declared.Device.{Device}
-use Rattle.stream.specs.Machine.{ask, handed, asked, Held, none-held, step}
+use Rattle.stream.specs.Machine.{ask, handed, asked, Held, none-held}
 use Rattle.stream.specs.Promise.{AllBytes}
 use Rattle.answers.specs.Numbers.{resettingNumbers}
 use Rattle.answers.specs.declared.Resetting.the-variants as resettings
@@ -33,10 +33,10 @@ use Rattle.numbers.specs.Refusal.{badRecord, badArea}
 use Rattle.endpoint.specs.Outcome.{outcome, refused}
 use Rattle.reset.specs.Datagram.{restarted, datagramCall}
 use Rattle.endpoint.specs.declared.Record.{Record}
-use Rattle.promise.specs.Rulebook.{datagram, Asked, rule, open?, admit}
+use Rattle.promise.specs.Rulebook.{datagram, Asked}
 use Rattle.promise.specs.Calls.{HostCall, runCalls}
 use Rattle.promise.specs.Kept.{Accepted}
-use Rattle.promise.specs.Stream.{wholeCalls}
+use Rattle.promise.specs.Whole.{wholesOf, byRules, bytesWaiting}
 use Rattle.promise.specs.Locks.{lockStatus}
 
 -- R75, R77. What a datagram needs to reset: refusals 1 and 2 do not apply, and it is the sentinel and the armed key.
@@ -77,7 +77,8 @@ pub record ResetByKey : Type 0 where
       runCalls r area (ask (datagram g) ∷ cs) ≡ (fresh .0, restarted r ∷ fresh .1)
   -- over whole messages too: no undecided byte is held, and no connection is open
   pub nobody : (d : Device) (h : Held) (g : List ℕ) → mechanism.resets (d .mechanism) g ≡ true
-      → step rule open? admit d h (ask (datagram g)) .0 ≡ (freshOf (d .reading), none-held)
+      → let one = ask (datagram g) ∷ [] in
+      (byRules d h one .0 ≡ freshOf (d .reading)) × (bytesWaiting d h one ≡ none-held)
   pub shutAll : (reading n : ℕ) → liveAt (freshOf reading .connections) n ≡ false
 
 -- ---- the channels after a reset
@@ -116,7 +117,7 @@ pub record RackFreeAgain : Type 0 where
       → lockStatus (datagramCall r area g .state .device) k at ≡ carriedOut
   -- whatever calls come after it, as long as no message asks for a channel, the first to ask for it gets it
   pub first : (r : Record) (area g : List ℕ) (cs : List HostCall) → Resets r area g → AllBytes cs → (k at : ℕ) → at < muteCount
-      → nobodyAsks at (wholeCalls (freshOf (r .device .reading)) none-held cs) ≡ true
+      → nobodyAsks at (wholesOf (freshOf (r .device .reading)) none-held cs) ≡ true
       → lockStatus (runCalls r area (ask (datagram g) ∷ cs) .0 .0 .device) k at ≡ carriedOut
   -- he then holds it, and another's lock of it is refused as held by another
   pub holds : (d : Device) (k j at : ℕ) → k < connectionCount → at < muteCount → length (d .holders) ≡ muteCount

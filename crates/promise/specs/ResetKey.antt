@@ -24,14 +24,15 @@ use Rattle.device.specs.Run.{statusOf}
 use Rattle.device.specs.Run as commands
 use Rattle.device.specs.Setters.{withMechanism}
 use Rattle.device.specs.declared.Device.{Device}
-use Rattle.stream.specs.Machine.{deliver, ask, handed, asked, Held}
+use Rattle.stream.specs.Machine.{deliver, ask, handed, asked}
 use Rattle.stream.specs.Promise.{AllBytes}
 use Rattle.endpoint.specs.State.{stateOf}
 use Rattle.endpoint.specs.Outcome.{Outcome}
 use Rattle.endpoint.specs.declared.Record.{Record}
 use Rattle.promise.specs.Rulebook.{opening, closing, ticking, taking, datagram, Asked, rule}
-use Rattle.promise.specs.Calls.{HostCall, callOf, runCalls, recordWith, areaWith}
-use Rattle.promise.specs.Stream.{wholeCalls, GoodState}
+use Rattle.promise.specs.Calls.{HostCall, callOf, runCalls}
+use Rattle.promise.specs.Kept.{heldIn, Kept}
+use Rattle.promise.specs.Whole.{wholesOf}
 
 -- ---- the latest key
 
@@ -89,10 +90,10 @@ pub record LatestKeyCounts : Type 0 where
       → commands.runOf d n target m count part .device .mechanism ≡ keyedBy (d .mechanism) target m count part
   -- a whole call: commands and a reset change the mechanism, and nothing else does
   pub whole : (d : Device) (w : Asked) → rule d w .0 .mechanism ≡ latest (d .mechanism) w
-  -- any list of calls, from any state that keeps the rules: the mechanism is that of the whole calls, one after another
-  pub calls : (d : Device) (h : Held) (cs : List HostCall) → GoodState d h → AllBytes cs
-      → runCalls (recordWith d h) (areaWith h) cs .0 .0 .device .mechanism
-      ≡ latestOver (d .mechanism) (wholeCalls d h cs)
+  -- any list of calls, from any record and area that refusals 1 and 2 let pass: the mechanism is that of the whole calls, in order
+  pub calls : (r : Record) (area : List ℕ) (cs : List HostCall) → Kept r area → AllBytes cs
+      → runCalls r area cs .0 .0 .device .mechanism
+      ≡ latestOver (r .device .mechanism) (wholesOf (r .device) (heldIn r area) cs)
 
 -- ---- the key stays inside
 

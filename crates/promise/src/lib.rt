@@ -1,6 +1,5 @@
 // The theorems of the product, as contracts of functions that do nothing: each has its line in the verdict.
 ghost use Rattle.promise.specs.Kept.{CallsKeep};
-ghost use Rattle.promise.specs.Stream.{StreamTheorem, CuttingDoesNotMatter, MixingDoesNotMatter};
 ghost use Rattle.promise.specs.Whole.{DemandThree};
 ghost use Rattle.promise.specs.Examples.{ExamplesWorked};
 ghost use Rattle.promise.specs.Closure.{ClosureLeavesNothing};
@@ -17,19 +16,6 @@ pub fn calls_keep()
 // R81. From a fresh record on, every answer, output, record and area is what the rules give over whole messages, and undecided bytes.
 pub fn demand_three()
     ensures { λ _. ⌜ DemandThree ⌝ }
-{}
-
-// R81. Bytes cut anywhere and mixed come to what the rules give over whole messages.
-pub fn stream_theorem()
-    ensures { λ _. ⌜ StreamTheorem ⌝ }
-{}
-
-pub fn cutting_does_not_matter()
-    ensures { λ _. ⌜ CuttingDoesNotMatter ⌝ }
-{}
-
-pub fn mixing_does_not_matter()
-    ensures { λ _. ⌜ MixingDoesNotMatter ⌝ }
 {}
 
 // R83. The examples, as one table.

@@ -15,8 +15,8 @@ use Rattle.octets.specs.Zeros.{zeros}
 use Rattle.area.specs.Area.{areaBytes}
 use Rattle.device.specs.State.{freshOf}
 use Rattle.stream.specs.Machine.{deliver, ask, Held, none-held}
-use Rattle.stream.specs.Lent.{countsOf}
 use Rattle.stream.specs.Promise.{Bytes, AllBytes}
+use Rattle.stream.specs.Lent.{countsOf}
 use Rattle.endpoint.specs.State.{freshState}
 use Rattle.endpoint.specs.declared.Record.{Record}
 use Rattle.promise.specs.Rulebook.{opening, closing, ticking, taking, datagram}

@@ -9,7 +9,7 @@ use lib.ListN.{take}
 use lib.Seq.{length-take-le}
 use Rattle.frame.specs.Decide.{decide, taken, settled}
 use Rattle.frame.proofs.Ways.{deciding}
-use Rattle.stream.specs.Promise.{Decides}
+use Rattle.stream.specs.Scaffold.{Decides}
 
 pub decides : (xs : List ℕ) → settled (decide xs) ≡ true → Decides (take (taken (decide xs)) xs)
 decides xs e =

@@ -1,7 +1,7 @@
 -- How undecided bytes lie in the lent area: what the calls of an endpoint do to the area and the counts is what the machine over
 -- pieces does to the bytes held. Assumes nothing.
 use Prim.Native.Nat.{ℕ, zero, suc, _+_, _-_, _≤_, _<_}
-use mathlib.Core.Path.{_≡_, refl, sym, ap, _∙_}
+use mathlib.Core.Path.{_≡_, refl, sym, ap, _∙_, fun-ext}
 use mathlib.Core.Logic.{_≢_}
 use mathlib.Core.Bool.{Bool, true, false, cond}
 use mathlib.Core.List.{List, [], _∷_, _++_, append-nil, append-assoc}
@@ -11,14 +11,15 @@ use native.Mathlib.Numerals.{add-one}
 use native.Mathlib.Nat.{not-suc-le-zero, add-zero, zero-add, suc-add, add-suc}
 use lib.ListN.{length, take, drop, set, getD, length-append, length-drop, List·getD-append, drop-of-length-le, take-append-drop, replicate}
 use lib.Seq.{take-at, drop-at, take-append-le, drop-append-le, take-append-seam, set-append-left, set-at, getD-at, take-take, take-all, drop-drop, drop-append-seam, take-add, sets, sets-eq}
+use lib.Dec.{eqb}
 use borrow.Author.Tests.{eq-eqb, ne-eqb}
 use Rattle.octets.specs.Zeros.{zeros}
 use Rattle.octets.proofs.Scans.{drop-zeros, length-zeros, zeros-append, all-zero-zeros}
 use Rattle.frame.specs.Decide.{decide, settled}
 use Rattle.area.specs.Area.{partBytes, areaBytes, partAt, partSound, partsSound, areaSound, undecidedOf, partCleared, clearedFrom, closedCleared, heldKept}
 use Rattle.stream.specs.Machine.{Held, none-held, put, only}
-use Rattle.stream.specs.Lent.{partHolding, flat, countsOf}
 use Rattle.stream.specs.Scaffold.{livesOf}
+use Rattle.stream.specs.Lent.{partHolding, flat, countsOf}
 use Rattle.stream.proofs.Stream.{put-elim}
 
 -- ---- a put, at its place and at another
@@ -30,6 +31,17 @@ put-same h c x = rw (eq-eqb c c refl)
 pub put-other : (h : Held) (c : ℕ) (x : List ℕ) (n : ℕ) → n ≢ c → put h c x n ≡ h n
 unfolding put
 put-other h c x n d = rw (ne-eqb n c d)
+
+pub put-self : (h : Held) (c : ℕ) → put h c (h c) ≡ h
+put-self h c = fun-ext λ n. put-elim h c (h c) n (λ x. x ≡ h n) (λ e. ap h (sym e)) refl
+
+pub put-put : (h : Held) (c : ℕ) (x y : List ℕ) → put (put h c x) c y ≡ put h c y
+unfolding put
+put-put h c x y = fun-ext λ n. go n (eqb n c)
+  where
+    go : (n : ℕ) (t : Bool) → cond t y (cond t x (h n)) ≡ cond t y (h n)
+    go n true = refl
+    go n false = refl
 
 -- ---- counts
 

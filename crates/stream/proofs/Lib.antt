@@ -1,5 +1,3 @@
 pub mod Bytes
 pub mod Stream
 pub mod Lent
-pub mod Cut
-pub mod Swap

@@ -1,5 +1,4 @@
 pub mod Machine
 pub mod Promise
-pub mod Cut
 pub mod Lent
 pub mod Scaffold

@@ -1,1 +1,1 @@
-// The stream theorem, over any device that keeps its laws: proofs/ alone.
+// The machine over pieces, over any device that keeps its laws: proofs/ alone.
