@@ -5,8 +5,8 @@ use mathlib.Core.Bool.{Bool, cond, true, false, not, _&&_, true≢false}
 use mathlib.Core.List.{List, [], _∷_, _++_, map, append-nil}
 use native.Mathlib.Omega.{arith}
 use lib.Dec.{ltb, leb, eqb}
-use lib.ListN.{length, getD, take, set, List·getD-map}
-use lib.Seq.{getD-set-other, length-take-le, take-length}
+use lib.ListN.{length, getD, take, drop, set, List·getD-map}
+use lib.Seq.{getD-set-other, length-take-le, take-length, drop-length, drop-append-seam}
 use borrow.Author.Tests.{eq-eqb, ne-eqb, eqb-true, eqb-false, ltb-true, lt-ltb}
 use Rattle.laws.specs.Lists.{all, any}
 use Rattle.laws.proofs.Conds.{either, and-left}
@@ -40,7 +40,7 @@ use Rattle.serve.specs.Sound.{soundOf}
 use Rattle.taking.specs.Dispatch.{notifiedOf}
 use Rattle.taking.proofs.Takes.{index-meets}
 use Rattle.replies.specs.Bytes.{leastOutput}
-use Rattle.stream.specs.Machine.{deliver, ask, asked, Held, none-held, put, only, rules}
+use Rattle.stream.specs.Machine.{deliver, ask, handed, asked, Held, none-held, put, only, rules}
 use Rattle.stream.specs.Promise.{AllBytes}
 use Rattle.stream.proofs.Lent.{Small, put-same, put-other, getD-counted, undecided-flat}
 use Rattle.answers.specs.Numbers.{openingNumbers}
@@ -50,11 +50,11 @@ use Rattle.endpoint.specs.Outcome.{Outcome}
 use Rattle.endpoint.specs.declared.Record.{Record}
 use Rattle.endpoint.proofs.States.{live-low}
 use Rattle.promise.specs.Rulebook as rulebook
-use Rattle.promise.specs.Rulebook.{Ask, opening, closing, ticking, taking, datagram, Given, messageBy, openBy, closeBy, resetBy, rule, open?, admit}
+use Rattle.promise.specs.Rulebook.{Ask, opening, closing, ticking, taking, datagram, Asked, Given, messageBy, openBy, closeBy, resetBy, rule, open?, admit}
 use Rattle.promise.specs.Calls.{HostCall, runCalls, withTaken, recordWith, areaWith}
 use Rattle.promise.specs.Kept.{heldIn, Kept}
 use Rattle.promise.specs.Whole.{upTo, Turn, tells, hands, turnBy, turnOf, deviceBy, turnsOf, wholesIn, withBytes, toldIn, hostSees, wholesOf, byRules, hostTold, bytesWaiting, AsRules}
-use Rattle.whole.specs.Since.{opensNumber, takenPart, takenAfter, takenSince, handedAfter, handedSince, SplitAlike, MessagesOfBytes}
+use Rattle.whole.specs.Since.{opensNumber, takenPart, takenAfter, takenSince, handedAfter, handedSince, SplitAlike, addedBy, wholesTold, SaidOfBytes, MessagesOfBytes}
 use Rattle.promise.proofs.OpenConnections.{live-closed, live-gone, live-alike, live-sound, lives-sent, lives-notified, fresh-shut}
 use Rattle.promise.proofs.Ways.{take-ways}
 use Rattle.promise.proofs.DeviceLaws.{admit-live, ticked-closed}
@@ -407,39 +407,105 @@ taken-sees n before [] os = refl
 taken-sees n before (c ∷ calls) [] = refl
 taken-sees n before (c ∷ calls) (o ∷ os) = taken-sees n (takenAfter n c (o .answer) before) calls os
 
-module _ (d : Device) (turns : List Turn) (n : ℕ) where
+module _ (d : Device) (turns : List Turn) where
   then-device : (t : Turn) → rules rule d (wholesIn (t ∷ turns)) .0 ≡ rules rule (deviceBy d t) (wholesIn turns) .0
   unfolding rules wholesIn deviceBy
   then-device (tells g) = refl
   then-device (hands k w) = refl
 
-  then-taken : (bytes : List ℕ) (c : HostCall) (calls : List HostCall) (t : Turn)
-      → takenFrom n bytes (c ∷ calls) (toldIn (t ∷ turns) (rules rule d (wholesIn (t ∷ turns)) .1))
-      ≡ takenFrom n (takenAfter n c (toldOf d t .answer) bytes) calls (toldIn turns (rules rule (deviceBy d t) (wholesIn turns) .1))
-  unfolding rules wholesIn toldIn deviceBy toldOf takenFrom
-  then-taken bytes c calls (tells g) = refl
-  then-taken bytes c calls (hands k w) = refl
+  then-told : (t : Turn) → toldIn (t ∷ turns) (rules rule d (wholesIn (t ∷ turns)) .1) ≡ toldOf d t ∷ toldIn turns (rules rule (deviceBy d t) (wholesIn turns) .1)
+  unfolding rules wholesIn toldIn deviceBy toldOf
+  then-told (tells g) = refl
+  then-told (hands k w) = refl
 
-  then-handed : (ms : List (List ℕ)) (t : Turn)
+  then-handed : (n : ℕ) (ms : List (List ℕ)) (t : Turn)
       → handedSince n ms (wholesIn (t ∷ turns)) (rules rule d (wholesIn (t ∷ turns)) .1)
       ≡ handedSince n (handedTurn n d t ms) (wholesIn turns) (rules rule (deviceBy d t) (wholesIn turns) .1)
   unfolding rules wholesIn deviceBy handedTurn handedSince
-  then-handed ms (tells g) = refl
-  then-handed ms (hands k w) = refl
+  then-handed n ms (tells g) = refl
+  then-handed n ms (hands k w) = refl
 
 -- THE RUN, from any device with bytes that wait
 run-stands : (n : ℕ) (calls : List HostCall) (d : Device) (h : Held) (bytes : List ℕ) (ms : List (List ℕ)) → Waits d h → Stands d h n bytes ms
     → Stands (byRules d h calls .0) (bytesWaiting d h calls) n (takenFrom n bytes calls (hostTold d h calls)) (handedSince n ms (wholesOf d h calls) (byRules d h calls .1))
-unfolding turnsOf
-run-stands n [] d h bytes ms w s = unfold rules wholesIn takenFrom handedSince in s
+unfolding turnsOf takenFrom
+run-stands n [] d h bytes ms w s = unfold rules wholesIn handedSince in s
 run-stands n (c ∷ calls) d h bytes ms w s =
     let t = turnOf d h c in
     let e = deviceBy d (t .0) in
     let g = only (open? e) (t .1) in
     let turns = turnsOf e g calls .0 in
-    rw (then-device d turns n (t .0), then-taken d turns n bytes c calls (t .0), then-handed d turns n ms (t .0))
+    rw (then-device d turns (t .0), then-told d turns (t .0), then-handed d turns n ms (t .0))
     (run-stands n calls e g (takenAfter n c (toldOf d (t .0) .answer) bytes) (handedTurn n d (t .0) ms)
     (only-waits e (t .1) (turn-undecided d h w c)) (turn-stands d h w n bytes ms s c))
+
+-- ---- the whole calls, turn after turn
+
+-- by what the host sees
+wholesSeen : Held → List HostCall → List Given → List Asked
+wholesSeen before [] given = []
+wholesSeen before (c ∷ calls) [] = []
+wholesSeen before (c ∷ calls) (o ∷ given) =
+    addedBy before c (o .answer) ++ wholesSeen (λ (n : ℕ). takenAfter n c (o .answer) (before n)) calls given
+
+wholes-sees : (before : Held) (calls : List HostCall) (os : List Outcome) → wholesTold before calls os ≡ wholesSeen before calls (map hostSees os)
+unfolding wholesTold wholesSeen
+wholes-sees before [] os = refl
+wholes-sees before (c ∷ calls) [] = refl
+wholes-sees before (c ∷ calls) (o ∷ os) =
+    ap (λ (ws : List Asked). addedBy before c (o .answer) ++ ws) (wholes-sees (λ (n : ℕ). takenAfter n c (o .answer) (before n)) calls os)
+
+-- each connection stands so
+abbrev AllStand : Device → Held → Held → Type 0
+AllStand d h before = (n : ℕ) → Stands d h n (before n) (splitOf (before n) .messages)
+
+module _ (d : Device) (h : Held) (w : Waits d h) (before : Held) (s : AllStand d h before) where
+  -- a delivery adds its message to those of its connection, or none
+  delivery-adds : (k : ℕ) (piece out m now : List ℕ) (q : ℕ) (b : Bool)
+      → handedTurn k d (turnBy q b h k m piece out .0) (splitOf (before k) .messages) ≡ splitOf now .messages
+      → wholesIn (turnBy q b h k m piece out .0 ∷ [])
+      ≡ map (λ (x : List ℕ). handed k x out) (drop (length (splitOf (before k) .messages)) (splitOf now .messages))
+  unfolding turnBy wholesIn handedTurn handedAfter
+  delivery-adds k piece out m now (suc q) b e = rw (← e, drop-length (splitOf (before k) .messages))
+  delivery-adds k piece out m now zero false e = rw (← e, drop-length (splitOf (before k) .messages))
+  delivery-adds k piece out m now zero true e =
+      let z : splitOf now .messages ≡ splitOf (before k) .messages ++ (m ∷ []) = sym e ∙ rw (eq-eqb k k refl) in
+      rw (z, drop-append-seam (splitOf (before k) .messages) (m ∷ []))
+
+  turn-adds : (c : HostCall) → wholesIn (turnOf d h c .0 ∷ []) ≡ addedBy before c (toldOf d (turnOf d h c .0) .answer)
+  unfolding turnOf addedBy
+  turn-adds (deliver k piece out) =
+      let m = upTo (h k) piece in
+      delivery-adds k piece out m _ (admit d k out) (settled (decide m)) (turn-stands d h w k (before k) (splitOf (before k) .messages) (s k) (deliver k piece out) .same)
+  turn-adds (ask a) = unfold wholesIn in refl
+
+  turn-all : (c : HostCall)
+      → let t = turnOf d h c in
+      let e = deviceBy d (t .0) in
+      AllStand e (only (open? e) (t .1)) (λ (n : ℕ). takenAfter n c (toldOf d (t .0) .answer) (before n))
+  turn-all c n =
+      let x = turn-stands d h w n (before n) (splitOf (before n) .messages) (s n) c in
+      record { same = refl; sound = x .sound; left = x .left }
+
+then-wholes : (turns : List Turn) (t : Turn) → wholesIn (t ∷ turns) ≡ wholesIn (t ∷ []) ++ wholesIn turns
+unfolding wholesIn
+then-wholes turns (tells g) = refl
+then-wholes turns (hands k w) = refl
+
+run-wholes : (calls : List HostCall) (d : Device) (h before : Held) → Waits d h → AllStand d h before
+    → wholesOf d h calls ≡ wholesSeen before calls (hostTold d h calls)
+unfolding turnsOf wholesSeen
+run-wholes [] d h before w s = unfold wholesIn in refl
+run-wholes (c ∷ calls) d h before w s =
+    let t = turnOf d h c in
+    let e = deviceBy d (t .0) in
+    let g = only (open? e) (t .1) in
+    let turns = turnsOf e g calls .0 in
+    let after : Held = λ (n : ℕ). takenAfter n c (toldOf d (t .0) .answer) (before n) in
+    let ih = run-wholes calls e g after (only-waits e (t .1) (turn-undecided d h w c)) (turn-all d h w before s c) in
+    then-wholes turns (t .0)
+    ∙ rw (then-told d turns (t .0), turn-adds d h w before s c)
+    (ap (λ (ws : List Asked). addedBy before c (toldOf d (t .0) .answer) ++ ws) ih)
 
 -- ---- the real run
 
@@ -462,30 +528,40 @@ unfolding runCalls AllBytes
 run-kept [] r area k b = k
 run-kept (c ∷ calls) r area k b = run-kept calls _ _ (calls-keep .calling r area c (b .0) k) (b .1)
 
-split-alike : (d : Device) (h : Held) (calls : List HostCall) (run : (Record × List ℕ) × List Outcome) → Waits d h → AsRules d h calls run
-    → Kept (run .0 .0) (run .0 .1) → (n : ℕ) → SplitAlike d h calls run n
-split-alike d h calls run w a kept n =
-    let s = run-stands n calls d h (h n) [] w (stands-first d h n (w .undecided n)) in
-    let q : takenSince n (h n) calls (run .1) ≡ takenFrom n (h n) calls (hostTold d h calls) =
-    taken-sees n (h n) calls (run .1) ∙ ap (takenFrom n (h n) calls) (a .sees) in
-    let o : run .0 .0 .device ≡ byRules d h calls .0 = ap (λ (r : Record). r .device) (a .state) in
+said-of-bytes : (d : Device) (h : Held) (calls : List HostCall) (run : (Record × List ℕ) × List Outcome) → Waits d h → AsRules d h calls run
+    → Kept (run .0 .0) (run .0 .1) → SaidOfBytes d h calls run
+said-of-bytes d h calls run w a kept =
     record {
-      messages = s .same ∙ ap (λ (x : List ℕ). splitOf x .messages) (sym q);
-      sound = λ l. rw q (s .sound (ap (λ (e : Device). open? e n) (sym o) ∙ l));
-      waiting = λ l.
-          ap (λ (x : List ℕ). splitOf x .left) q ∙ s .left (ap (λ (e : Device). open? e n) (sym o) ∙ l)
-          ∙ held-waiting (run .0 .0) (run .0 .1) n (byRules d h calls .0) (bytesWaiting d h calls) kept l (a .state) (a .area) (a .undecided);
+      each = each;
+      wholes = run-wholes calls d h h w (λ n. first n) ∙ ap (wholesSeen h calls) (sym (a .sees)) ∙ sym (wholes-sees h calls (run .1));
     }
+  where
+    first : AllStand d h h
+    first n = let x = stands-first d h n (w .undecided n) in record { same = refl; sound = x .sound; left = x .left }
+
+    each : (n : ℕ) → SplitAlike d h calls run n
+    each n =
+        let s = run-stands n calls d h (h n) [] w (stands-first d h n (w .undecided n)) in
+        let q : takenSince n (h n) calls (run .1) ≡ takenFrom n (h n) calls (hostTold d h calls) =
+        taken-sees n (h n) calls (run .1) ∙ ap (takenFrom n (h n) calls) (a .sees) in
+        let o : run .0 .0 .device ≡ byRules d h calls .0 = ap (λ (r : Record). r .device) (a .state) in
+        record {
+          messages = s .same ∙ ap (λ (x : List ℕ). splitOf x .messages) (sym q);
+          sound = λ l. rw q (s .sound (ap (λ (e : Device). open? e n) (sym o) ∙ l));
+          waiting = λ l.
+              ap (λ (x : List ℕ). splitOf x .left) q ∙ s .left (ap (λ (e : Device). open? e n) (sym o) ∙ l)
+              ∙ held-waiting (run .0 .0) (run .0 .1) n (byRules d h calls .0) (bytesWaiting d h calls) kept l (a .state) (a .area) (a .undecided);
+        }
 
 pub messages-of-bytes : MessagesOfBytes
 messages-of-bytes =
     record {
       fresh = λ reading calls b.
-          split-alike (freshOf reading) none-held calls (runCalls (freshState reading) (zeros areaBytes) calls)
+          said-of-bytes (freshOf reading) none-held calls (runCalls (freshState reading) (zeros areaBytes) calls)
           (record { undecided = λ n. nil-waits; none = λ n z. refl }) (demand-three .fresh reading calls b)
           (run-kept calls (freshState reading) (zeros areaBytes) (calls-keep .fresh reading) b);
       later = λ r area calls k b.
           let good = kept-good r area k in
-          split-alike (r .device) (heldIn r area) calls (runCalls r area calls) (record { undecided = good .waiting; none = good .empty })
+          said-of-bytes (r .device) (heldIn r area) calls (runCalls r area calls) (record { undecided = good .waiting; none = good .empty })
           (demand-three .later r area calls k b) (run-kept calls r area k b);
     }

@@ -2,9 +2,9 @@
 use Prim.Native.Nat.{ℕ}
 use mathlib.Core.Path.{_≡_}
 use mathlib.Core.Bool.{Bool, cond, true}
-use mathlib.Core.List.{List, [], _∷_, _++_}
+use mathlib.Core.List.{List, [], _∷_, _++_, map}
 use lib.Dec.{eqb}
-use lib.ListN.{getD, take}
+use lib.ListN.{length, getD, take, drop}
 use Rattle.octets.specs.Zeros.{zeros}
 use Rattle.octets.specs.Same.{sameBytes}
 use Rattle.split.specs.Split.{splitOf}
@@ -71,11 +71,31 @@ pub record SplitAlike (d : Device) (h : Held) (calls : List HostCall) (run : (Re
   pub waiting : open? (run .0 .0 .device) n ≡ true
       → splitOf (takenSince n (h n) calls (run .1)) .left ≡ heldIn (run .0 .0) (run .0 .1) n
 
--- Theorem. Of each connection since its opening, the messages handed to the rules are those of the bytes taken.
+-- R81. The whole calls that one call adds: the messages that its bytes add to those of its connection, or the call itself.
+unfoldable pub addedBy : Held → HostCall → List ℕ → List Asked
+addedBy before (deliver n piece out) answer =
+    let now = takenAfter n (deliver n piece out) answer (before n) in
+    map (λ (m : List ℕ). handed n m out) (drop (length (splitOf (before n) .messages)) (splitOf now .messages))
+addedBy before (ask a) answer = asked a ∷ []
+
+-- R81. The whole calls of some calls, by what the calls gave and the bytes taken alone.
+unfoldable pub wholesTold : Held → List HostCall → List Outcome → List Asked
+wholesTold before [] given = []
+wholesTold before (c ∷ calls) [] = []
+wholesTold before (c ∷ calls) (o ∷ given) =
+    addedBy before c (o .answer) ++ wholesTold (λ (n : ℕ). takenAfter n c (o .answer) (before n)) calls given
+
+-- R81. So of every connection, and of the whole calls in their order.
+pub record SaidOfBytes (d : Device) (h : Held) (calls : List HostCall) (run : (Record × List ℕ) × List Outcome) : Type 0 where
+  pub each : (n : ℕ) → SplitAlike d h calls run n
+  -- the rules are handed what a host that sees the calls and their answers splits its bytes into, each message at its place
+  pub wholes : wholesOf d h calls ≡ wholesTold h calls (run .1)
+
+-- Theorem. What the rules are handed is what the bytes taken of each connection since its opening are split into.
 pub record MessagesOfBytes : Type 0 where
   -- from a fresh record and a zeroed area, whatever calls are made
   pub fresh : (reading : ℕ) (calls : List HostCall) → AllBytes calls
-      → (n : ℕ) → SplitAlike (freshOf reading) none-held calls (runCalls (freshState reading) (zeros areaBytes) calls) n
+      → SaidOfBytes (freshOf reading) none-held calls (runCalls (freshState reading) (zeros areaBytes) calls)
   -- and from any record and area to which refusals 1 and 2 do not apply, where the bytes that wait were taken before
   pub later : (r : Record) (area : List ℕ) (calls : List HostCall) → Kept r area → AllBytes calls
-      → (n : ℕ) → SplitAlike (r .device) (heldIn r area) calls (runCalls r area calls) n
+      → SaidOfBytes (r .device) (heldIn r area) calls (runCalls r area calls)
