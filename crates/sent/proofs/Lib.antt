@@ -2,4 +2,5 @@ pub mod Takes
 pub mod Responses
 pub mod Replies
 pub mod Deliveries
+pub mod Longest
 pub mod Sends

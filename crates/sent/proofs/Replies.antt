@@ -127,14 +127,14 @@ module _ (d : Device) (n : ℕ) (m : List ℕ) where
   beat-reply k = ap (λ (x : Ruled). x .reply) (sound-beat k)
 
   -- the responses to the commands
-  abbrev responses : List ℕ
+  abbrev pub responses : List ℕ
   responses = responsesOf (messageCount m) (heardAt d n) n (pduType m) (drop headerEnd m)
 
   sound-commands : pduType m < notification → soundOf d n m ≡ commandsOf (heardAt d n) n (pduType m) (messageCount m) (drop headerEnd m)
   unfolding soundOf
   sound-commands k = rw (ne-eqb (pduType m) keepAlive (λ e. omega arith), lt-ltb (pduType m) notification k)
 
-  told-reply : pduType m ≡ commandWantingReply → replyTo d n m ≡ message response (messageCount m) responses
+  pub told-reply : pduType m ≡ commandWantingReply → replyTo d n m ≡ message response (messageCount m) responses
   told-reply k =
       ap (λ (x : Ruled). x .reply)
       (sound-commands (omega arith) ∙ commands-told (heardAt d n) n (pduType m) (messageCount m) (drop headerEnd m) (λ e. omega arith))

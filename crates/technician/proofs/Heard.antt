@@ -27,7 +27,7 @@ use Rattle.device.specs.declared.Device.{Device}
 use Rattle.serve.specs.Serve.{ranWith, ranFirst, lastOf}
 use Rattle.serve.specs.Sound.{Ruled, ruled, commandsOf, keptAlive, soundOf}
 use Rattle.delivery.specs.Intake.{messaged, deliveredBy, takenIn}
-use Rattle.endpoint.specs.Deliver.{deliverCall}
+use Rattle.endpoint.specs.Deliver.{heldAt, deliverCall}
 use Rattle.endpoint.specs.declared.Record.{Record}
 use Rattle.endpoint.proofs.States.{live-low}
 use Rattle.promise.specs.Heartbeats.{broughtBy}
@@ -37,16 +37,23 @@ use Rattle.technician.specs.Technician.{Ends, beatIn, beatAfter}
 
 -- ---- the device after it
 module _ (r : Record) (area : List ℕ) (n : ℕ) (piece out m : List ℕ) (e : Ends r area n piece out m) where
-  decided : decide (broughtBy r area n piece) ≡ Sound (length m)
-  decided = ap decide (e .brought) ∙ deciding .lasting m (e .behind) (rw (e .sound) (unfold settled in refl)) ∙ e .sound
+  pub heard-decided : decide (broughtBy r area n piece) ≡ Sound (length m)
+  heard-decided = ap decide (e .brought) ∙ deciding .lasting m (e .behind) (rw (e .sound) (unfold settled in refl)) ∙ e .sound
 
-  front : take (length m) (broughtBy r area n piece) ≡ m
-  front = ap (take (length m)) (e .brought) ∙ take-append-seam m (e .behind)
+  pub heard-front : take (length m) (broughtBy r area n piece) ≡ m
+  heard-front = ap (take (length m)) (e .brought) ∙ take-append-seam m (e .behind)
 
   pub heard-device : deliverCall r area n piece out .state .device ≡ soundOf (r .device) n m .device
   unfolding deliverCall takenIn deliveredBy messaged
   heard-device =
-      rw (e .kept .obeys, e .kept .sound, e .live, le-ltb (length out) leastOutput (e .room), decided, front) refl
+      rw (e .kept .obeys, e .kept .sound, e .live, le-ltb (length out) leastOutput (e .room), heard-decided, heard-front) refl
+
+  -- none of its bytes wait then
+  pub heard-none : heldAt (deliverCall r area n piece out .state) n ≡ 0
+  unfolding deliverCall takenIn deliveredBy messaged
+  heard-none =
+      let low : n < length (r .held) = rw (e .kept .counts) (live-low (r .device .connections) n 8 (e .live) (e .kept .eight)) in
+      rw (e .kept .obeys, e .kept .sound, e .live, le-ltb (length out) leastOutput (e .room), heard-decided) (getD-set-same (r .held) n 0 0 low)
 
 -- ---- commands leave the connections as they are
 run-same : (d : Device) (n t k count : ℕ) (part : List ℕ) → runOf d n t k count part .device .connections ≡ d .connections

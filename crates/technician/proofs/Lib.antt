@@ -5,3 +5,4 @@ pub mod Locked
 pub mod Free
 pub mod Heard
 pub mod Technician
+pub mod Evening

@@ -1,3 +1,4 @@
 pub mod Silence
 pub mod Lock
 pub mod Technician
+pub mod Evening
