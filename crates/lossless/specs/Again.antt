@@ -9,9 +9,8 @@ use Rattle.fields.specs.declared.CommandFields.{CommandFields}
 use Rattle.fields.specs.declared.NotificationFields.{NotificationFields}
 use Rattle.fields.specs.declared.ResponseFields.{ResponseFields}
 use Rattle.numbers.specs.Refusal.{notRefused}
-use Rattle.reader.specs.Numbers.{entryNumbers}
 use Rattle.reader.specs.Read.{readOf}
-use Rattle.reader.specs.Entry.{entryOf, partOf}
+use Rattle.reader.specs.Entry.{ReadsEntry, GivesPart}
 use Rattle.reader.specs.declared.Entry.{Entry}
 use Rattle.reader.specs.declared.Entry.the-variants as entry
 
@@ -45,8 +44,8 @@ entryAgain entry.NoEntry part = []
 pub record Rebuilt (s : List ℕ) (i : ℕ) (e : List ℕ) : Type 0 where
   pub answer : Entry
   pub part : List ℕ
-  pub entry : entryNumbers answer ≡ entryOf s i
-  pub behind : part ≡ partOf s i
+  pub entry : ReadsEntry s i answer
+  pub behind : GivesPart s i part
   pub bytes : e ≡ entryAgain answer part
 
 -- R19, R20, R21. Reading s told n bytes, that type and as many entries as es has, and each of these is rebuilt from its answers.

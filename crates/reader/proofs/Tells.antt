@@ -1,6 +1,6 @@
 -- The numbers of an answer tell it from every other. Assumes nothing.
 use Prim.Native.Nat.{ℕ, _+_}
-use mathlib.Core.Path.{_≡_, refl, ap}
+use mathlib.Core.Path.{_≡_, refl, sym, ap, _∙_}
 use mathlib.Core.List.{List}
 use mathlib.Core.Bool.{cond}
 use lib.ListN.{getD, drop}
@@ -81,11 +81,21 @@ entry-back (entry.Fault f) = refl
 entry-back entry.Short = refl
 entry-back entry.NoEntry = refl
 
+reading-tells : (a b : Reading) → readingNumbers a ≡ readingNumbers b → a ≡ b
+reading-tells = undone-tells readingNumbers readingBack reading-back
+
+entry-tells : (a b : Entry) → entryNumbers a ≡ entryNumbers b → a ≡ b
+entry-tells = undone-tells entryNumbers entryBack entry-back
+
 pub numbers-tell : NumbersTell
 numbers-tell =
     record {
       heartbeats = undone-tells heartbeatNumbers heartbeatBack heartbeat-back;
       messages = undone-tells messageNumbers messageBack message-back;
-      readings = undone-tells readingNumbers readingBack reading-back;
-      entries = undone-tells entryNumbers entryBack entry-back;
+      readings = reading-tells;
+      entries = entry-tells;
+      message = λ s a b p q. reading-tells a b (p ∙ sym q);
+      entry = λ s i a b p q. entry-tells a b (p ∙ sym q);
+      part = λ s i a b p q. p ∙ sym q;
+      start = λ s i a b p q. p ∙ sym q;
     }

@@ -14,7 +14,8 @@ use Rattle.frame.specs.declared.Decision.the-variants.{Undecided, Faulty, Sound
 use Rattle.fields.specs.Place.{entriesFrom, entryBytes, parametersOf}
 use Rattle.fields.specs.Fields.{commandOf, notificationOf, responseOf}
 use Rattle.numbers.specs.Refusal.{notRefused, fault, short, noEntry}
-use Rattle.reader.specs.Numbers.{commandNumbers, notificationNumbers, responseNumbers}
+use Rattle.reader.specs.Numbers.{commandNumbers, notificationNumbers, responseNumbers, entryNumbers}
+use Rattle.reader.specs.declared.Entry.{Entry}
 use Rattle.reader.specs.Read.{dataOf}
 
 -- R20. The message has an entry i; else refusal 12.
@@ -75,6 +76,18 @@ partStartBy (Sound n) s i = partStartIn s n i
 -- R22. Where the part of entry i starts in the caller's bytes.
 unfoldable pub partStart : List ℕ → ℕ → ℕ
 partStart s i = partStartBy (decide s) s i
+
+-- R20, R68. What reading entry i promises: answer r.
+abbrev pub ReadsEntry : List ℕ → ℕ → Entry → Type 0
+ReadsEntry s i r = entryNumbers r ≡ entryOf s i
+
+-- R21, R68. What asking for the part of entry i promises.
+abbrev pub GivesPart : List ℕ → ℕ → List ℕ → Type 0
+GivesPart s i part = part ≡ partOf s i
+
+-- R22, R68. What asking where that part starts promises.
+abbrev pub TellsStart : List ℕ → ℕ → ℕ → Type 0
+TellsStart s i at = at ≡ partStart s i
 
 -- Theorem. From its start on, as long as it is, the caller's bytes are the part, and they have that many.
 pub record PartStands : Type 0 where

@@ -1,5 +1,6 @@
 -- R19. Reading the message at the front of some bytes.
 use Prim.Native.Nat.{ℕ}
+use mathlib.Core.Path.{_≡_}
 use mathlib.Core.List.{List, [], _∷_}
 use mathlib.Core.Bool.{cond}
 use lib.ListN.{take, drop}
@@ -11,7 +12,8 @@ use Rattle.frame.specs.declared.Decision.{Decision}
 use Rattle.frame.specs.declared.Decision.the-variants.{Undecided, Faulty, Sound}
 use Rattle.fields.specs.Fields.{heartbeatOf}
 use Rattle.numbers.specs.Refusal.{notRefused, fault, short}
-use Rattle.reader.specs.Numbers.{heartbeatNumbers}
+use Rattle.reader.specs.Numbers.{heartbeatNumbers, readingNumbers}
+use Rattle.reader.specs.declared.Reading.{Reading}
 
 -- R7. The data of a message of n bytes.
 abbrev pub dataOf : List ℕ → ℕ → List ℕ
@@ -33,3 +35,7 @@ readBy (Sound n) s = notRefused ∷ n ∷ messageOf s n
 -- R19, R64. Reading the message at the front of s: 8, 9, or what it is.
 unfoldable pub readOf : List ℕ → List ℕ
 readOf s = readBy (decide s) s
+
+-- R19, R68. What reading a message promises: answer r.
+abbrev pub ReadsMessage : List ℕ → Reading → Type 0
+ReadsMessage s r = readingNumbers r ≡ readOf s

@@ -13,10 +13,10 @@ ghost use Rattle.frame.specs.Entry.{leastEntry};
 ghost use Rattle.frame.specs.Header.{pduType};
 ghost use Rattle.frame.specs.Scaffold.{SoundAt};
 ghost use Rattle.fields.specs.Place.{entriesFrom};
-ghost use Rattle.reader.specs.Numbers.{messageNumbers, readingNumbers, entryNumbers};
-ghost use Rattle.reader.specs.Read.{dataOf, messageOf, readOf};
-ghost use Rattle.reader.specs.Entry.{hasEntry, fieldsOf, entryAt, entryIn, entryOf, partIn, partOf};
-ghost use Rattle.reader.specs.Entry.{partStartIn, partStart, PartStands};
+ghost use Rattle.reader.specs.Numbers.{messageNumbers, entryNumbers};
+ghost use Rattle.reader.specs.Read.{dataOf, messageOf, ReadsMessage};
+ghost use Rattle.reader.specs.Entry.{hasEntry, fieldsOf, entryAt, entryIn, partIn};
+ghost use Rattle.reader.specs.Entry.{partStartIn, ReadsEntry, GivesPart, TellsStart, PartStands};
 ghost use Rattle.reader.specs.Tell.{NumbersTell};
 ghost use Rattle.reader.specs.Examples.{ExamplesRead};
 
@@ -70,7 +70,7 @@ fn message_in(s: &[u8], n: usize) -> Message
 
 // The message at the front of s.
 pub fn read_message(s: &[u8]) -> Reading
-    ensures { λ r. ⌜ readingNumbers r ≡ readOf (now (s .entry)) ⌝ }
+    ensures { λ r. ⌜ ReadsMessage (now (s .entry)) r ⌝ }
 {
     match frame::decide(s) {
         Decision::Undecided => Reading::Short,
@@ -125,7 +125,7 @@ fn entry_in(s: &[u8], n: usize, index: usize) -> Entry
 
 // Entry index of the message at the front of s.
 pub fn read_entry(s: &[u8], index: usize) -> Entry
-    ensures { λ r. ⌜ entryNumbers r ≡ entryOf (now (s .entry)) index ⌝ }
+    ensures { λ r. ⌜ ReadsEntry (now (s .entry)) index r ⌝ }
 {
     match frame::decide(s) {
         Decision::Undecided => Entry::Short,
@@ -150,7 +150,7 @@ fn part_in<'a>(s: &'a [u8], n: usize, index: usize) -> &'a [u8]
 
 // R21. The parameters of entry index, as a slice of s; empty where it is refused.
 pub fn entry_part<'a>(s: &'a [u8], index: usize) -> &'a [u8]
-    ensures { λ r. ⌜ now r ≡ partOf (now (s .entry)) index ⌝ }
+    ensures { λ r. ⌜ GivesPart (now (s .entry)) index (now r) ⌝ }
 {
     match frame::decide(s) {
         Decision::Undecided => &s[..0],
@@ -184,7 +184,7 @@ fn start_in(s: &[u8], n: usize, index: usize) -> usize
 
 // Where entry index's part starts in s, for a caller that cannot be handed a slice: 0 where the entry is refused.
 pub fn part_start(s: &[u8], index: usize) -> usize
-    ensures { λ r. ⌜ r ≡ partStart (now (s .entry)) index ⌝ }
+    ensures { λ r. ⌜ TellsStart (now (s .entry)) index r ⌝ }
 {
     match frame::decide(s) {
         Decision::Undecided => 0,
@@ -198,7 +198,7 @@ pub fn part_stands()
     ensures { λ r. ⌜ PartStands ⌝ }
 {}
 
-// The numbers of an answer tell it from every other.
+// The numbers of an answer tell it from every other, and each promise allows one answer.
 pub fn numbers_tell()
     ensures { λ r. ⌜ NumbersTell ⌝ }
 {}
