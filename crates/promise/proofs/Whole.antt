@@ -36,10 +36,14 @@ pub up-waits : (bytes piece : List ℕ) → settled (decide (bytes ++ piece)) �
 unfolding upTo
 up-waits bytes [] u = sym (append-nil bytes)
 up-waits bytes (b ∷ piece) u =
-    let x = bytes ++ (b ∷ []) in
-    let a : x ++ piece ≡ bytes ++ b ∷ piece = append-assoc bytes (b ∷ []) piece in
-    let v : settled (decide (x ++ piece)) ≡ false = rw a u in
-    rw (part-waits x piece v) (up-waits x piece v ∙ a)
+    let a : (bytes ++ (b ∷ [])) ++ piece ≡ bytes ++ b ∷ piece = append-assoc bytes (b ∷ []) piece in
+    let v : settled (decide ((bytes ++ (b ∷ [])) ++ piece)) ≡ false = rw a u in
+    go (settled (decide (bytes ++ (b ∷ [])))) (part-waits (bytes ++ (b ∷ [])) piece v) (up-waits (bytes ++ (b ∷ [])) piece v ∙ a)
+  where
+    go : (t : Bool) → t ≡ false → upTo (bytes ++ (b ∷ [])) piece ≡ bytes ++ b ∷ piece
+        → cond t (bytes ++ (b ∷ [])) (upTo (bytes ++ (b ∷ [])) piece) ≡ bytes ++ b ∷ piece
+    go true e ih = absurd (true≢false e)
+    go false e ih = ih
 
 pub up-decides : (bytes piece : List ℕ) → settled (decide bytes) ≡ false → settled (decide (bytes ++ piece)) ≡ true
     → upTo bytes piece ≡ take (taken (decide (bytes ++ piece))) (bytes ++ piece)
