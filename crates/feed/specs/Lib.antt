@@ -1,0 +1,3 @@
+pub mod Feed
+pub mod Scaffold
+pub mod Tell
