@@ -6,6 +6,7 @@ pub mod counts;
 pub mod damage;
 pub mod desk;
 pub mod gate;
+pub mod listings;
 pub mod planned;
 pub mod random;
 pub mod reset;

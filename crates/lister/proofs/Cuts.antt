@@ -75,7 +75,7 @@ left-unsound (suc k) s h = go (front s) (λ n e. left-unsound k (drop n s) (shor
     go (first n e) i = rw (first-unlisted s n e) (i n e)
 
 -- what stands behind s is read after what s leaves
-messages-more : (k : ℕ) (s t : List ℕ) → length s ≤ k → messagesOf (s ++ t) ≡ messagesOf s ++ messagesOf (unlisted s ++ t)
+pub messages-more : (k : ℕ) (s t : List ℕ) → length s ≤ k → messagesOf (s ++ t) ≡ messagesOf s ++ messagesOf (unlisted s ++ t)
 unfolding settled
 messages-more zero s t h =
     let u = nothing-unsound s h in
@@ -91,11 +91,11 @@ messages-more (suc k) s t h = go (front s) (λ n e. messages-more k (drop n s) t
         messages-first (s ++ t) n d
         ∙ rw (take-append-le n s t w, drop-append-le n s t w, i n e, messages-first s n e, first-unlisted s n e)
 
-listed-more : (s t : List ℕ) → listedBytes (s ++ t) ≡ listedBytes s + listedBytes (unlisted s ++ t)
+pub listed-more : (s t : List ℕ) → listedBytes (s ++ t) ≡ listedBytes s + listedBytes (unlisted s ++ t)
 unfolding listedBytes
 listed-more s t = ap bytesOf (messages-more (length s) s t (omega arith)) ∙ bytes-append (messagesOf s) (messagesOf (unlisted s ++ t))
 
-unlisted-more : (s t : List ℕ) → unlisted (s ++ t) ≡ unlisted (unlisted s ++ t)
+pub unlisted-more : (s t : List ℕ) → unlisted (s ++ t) ≡ unlisted (unlisted s ++ t)
 unfolding unlisted
 unlisted-more s t =
     ap (λ (k : ℕ). drop k (s ++ t)) (listed-more s t)
@@ -103,7 +103,7 @@ unlisted-more s t =
     ∙ ap (drop (listedBytes (drop (listedBytes s) s ++ t))) (drop-append-le (listedBytes s) s t (listed-within s))
 
 -- the listing of s and what stands behind it
-listing-more : (at : ℕ) (s t : List ℕ) → listingFrom at (s ++ t) ≡ linesOf at (messagesOf s) ++ listingFrom (at + listedBytes s) (unlisted s ++ t)
+pub listing-more : (at : ℕ) (s t : List ℕ) → listingFrom at (s ++ t) ≡ linesOf at (messagesOf s) ++ listingFrom (at + listedBytes s) (unlisted s ++ t)
 unfolding listingFrom listedBytes
 listing-more at s t =
     let u = unlisted s ++ t in

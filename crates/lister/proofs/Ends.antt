@@ -9,8 +9,7 @@ use Rattle.frame.specs.Decide.{decide}
 use Rattle.lines.specs.Scaffold.{lineRoom, PutsLine}
 use Rattle.lines.proofs.Putting.{puts-then, puts-length}
 use Rattle.lister.specs.Listing.{messagesOf, bytesOf, linesOf, lastLine, listedBytes, unlisted}
-use Rattle.lister.specs.Pieces.{overBy, over, pieceText}
-use Rattle.lister.specs.Turns.{ListsPiece}
+use Rattle.lister.specs.Pieces.{overBy, over, pieceText, ListsPiece}
 use Rattle.lister.specs.Scaffold.{Lists}
 use Rattle.lister.specs.declared.Listed.{Listed}
 

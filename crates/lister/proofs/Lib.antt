@@ -3,4 +3,3 @@ pub mod Walks
 pub mod Ends
 pub mod Moves
 pub mod Cuts
-pub mod Turnings

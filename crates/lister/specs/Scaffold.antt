@@ -1,9 +1,8 @@
 -- For the contracts of inner functions and for proofs: no rule is here.
-use Prim.Native.Nat.{ℕ, _+_, _*_, _≤_, _<_}
+use Prim.Native.Nat.{ℕ, _+_, _*_, _≤_}
 use mathlib.Core.Path.{_≡_}
 use mathlib.Core.List.{List, []}
 use lib.ListN.{length}
-use Rattle.frame.specs.Limits.{greatestSize}
 use Rattle.frame.specs.Decide.{decide}
 use Rattle.lines.specs.Scaffold.{Puts}
 use Rattle.lister.specs.declared.Listed.{Listed}
@@ -20,22 +19,3 @@ pub record Lists (ms : List (List ℕ)) (s : List ℕ) (offset : ℕ) (before : 
   pub puts : Puts (linesOf offset ms) before at after (r .put)
   -- a message has at least 10 bytes
   pub room : r .put ≤ at + 4 * r .used
-
--- R80. The bytes that the input's buffer holds.
-abbrev pub pieceBytes : ℕ
-pieceBytes = 16000
-
--- R80. The bytes that the output's buffer holds.
-abbrev pub textBytes : ℕ
-textBytes = 65536
-
--- R80. Below it every offset of a piece fits 64 bits.
-abbrev pub greatestOffset : ℕ
-greatestOffset = 18446744073709500000
-
--- The buffers, and few bytes held, from an offset on that can be counted.
-pub record TurnReady (input out : List ℕ) (offset held : ℕ) : Type 0 where
-  pub input-length : length input ≡ pieceBytes
-  pub out-length : length out ≡ textBytes
-  pub counted : offset < greatestOffset
-  pub few : held ≤ greatestSize

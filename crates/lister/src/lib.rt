@@ -1,7 +1,4 @@
-// The listing: a line for each message of the input, and a last line that says how it ended.
-use libc::STDERR_FILENO;
-use libc::STDIN_FILENO;
-use libc::STDOUT_FILENO;
+// The listing of some bytes: a line for each message, and a last line that says how it ended.
 use reader::Message;
 use reader::Reading;
 ghost use mathlib.Core.Path.{_≡_};
@@ -12,16 +9,9 @@ ghost use Rattle.frame.specs.Decide.{decide};
 ghost use Rattle.reader.specs.Numbers.{messageNumbers};
 ghost use Rattle.lines.specs.Scaffold.{lineRoom, PutsLine};
 ghost use Rattle.lister.specs.Listing.{messagesOf, lastLine};
-ghost use Rattle.lister.specs.Pieces.{overBy, Pieces};
-ghost use Rattle.lister.specs.Turns.{ListsPiece, Turned};
-ghost use Rattle.lister.specs.Scaffold.{firstOf, Lists, pieceBytes, TurnReady};
+ghost use Rattle.lister.specs.Pieces.{overBy, ListsPiece, Pieces};
+ghost use Rattle.lister.specs.Scaffold.{firstOf, Lists};
 ghost use Rattle.lister.specs.Sample.{SampleListed};
-
-// The input's buffer. A message has at least 10 bytes and a line at most 40, so io's large buffer has room for the lines of a piece.
-pub const PIECE: usize = 16000;
-
-// Below it every offset of a piece fits 64 bits.
-pub const GREATEST_OFFSET: u64 = 18446744073709500000;
 
 struct Listed {
     // the bytes of the messages that were listed
@@ -30,26 +20,11 @@ struct Listed {
     put: usize,
 }
 
-struct Piece {
-    used: usize,
-    put: usize,
+pub struct Piece {
+    pub used: usize,
+    pub put: usize,
     // the last line was put
-    over: bool,
-}
-
-struct Came {
-    // the bytes read: none where the input ends or cannot be read
-    count: usize,
-    failed: bool,
-}
-
-struct Next {
-    // the offset of the first byte held
-    offset: u64,
-    held: usize,
-    over: bool,
-    // the input could not be read, or the text not be written
-    failed: bool,
+    pub over: bool,
 }
 
 fn kind_of(m: Message) -> u8
@@ -132,7 +107,7 @@ fn put_last(s: &[u8], offset: u64, out: &mut [u8], at: usize) -> usize
 }
 
 // Lists the bytes s, which stand from the offset on. end says that the input ends with them.
-fn list_piece(s: &[u8], offset: u64, out: &mut [u8], end: bool) -> Piece
+pub fn list_piece(s: &[u8], offset: u64, out: &mut [u8], end: bool) -> Piece
     requires { ⌜ (4 * length (now s) + lineRoom ≤ length (now out)) × (offset + length (now s) < 2 ^ 64) ⌝ }
     ensures { λ r. ⌜ ListsPiece end offset (now (s .entry)) (now (out .entry)) (now (out .exit)) r ⌝ }
 {
@@ -152,36 +127,8 @@ fn list_piece(s: &[u8], offset: u64, out: &mut [u8], end: bool) -> Piece
     }
 }
 
-// Reads from fd behind the bytes held.
-fn read_more(fd: i32, buf: &mut [u8], held: usize) -> Came
-    requires { ⌜ held ≤ length (now buf) ⌝ }
-    ensures { λ r. ⌜ (held + r .count ≤ length (now (buf .exit))) × (take held (now (buf .exit)) ≡ take held (now (buf .entry))) ⌝ }
-{
-    let got = libc::read(fd, &mut buf[held..]);
-    if got < 0 {
-        io::write_all(STDERR_FILENO, b"listing: the input cannot be read\n");
-        return Came {
-            count: 0,
-            failed: true,
-        };
-    }
-    Came {
-        count: io::count(got, &buf[held..]),
-        failed: false,
-    }
-}
-
-// Answers whether all was written.
-fn write_out(s: &[u8]) -> bool {
-    let is_written = io::write_all(STDOUT_FILENO, s);
-    if !is_written {
-        io::write_all(STDERR_FILENO, b"listing: the output cannot be written\n");
-    }
-    is_written
-}
-
 // Moves n bytes from a place on to the front.
-fn move_down(buf: &mut [u8], from: usize, n: usize)
+pub fn move_down(buf: &mut [u8], from: usize, n: usize)
     requires { ⌜ from + n ≤ length (now buf) ⌝ }
     ensures { λ _. ⌜ now (buf .exit) ≡ take n (drop from (now (buf .entry))) ++ drop n (now (buf .entry)) ⌝ }
 {
@@ -190,58 +137,6 @@ fn move_down(buf: &mut [u8], from: usize, n: usize)
         buf[i] = buf[from + i];
         i += 1;
     }
-}
-
-// Reads once from fd, lists what came behind the bytes held, and keeps what is left.
-fn turn(fd: i32, input: &mut [u8], out: &mut [u8], offset: u64, held: usize) -> Next
-    requires { ⌜ TurnReady (now input) (now out) offset held ⌝ }
-    ensures { λ r. ⌜ Turned offset (take held (now (input .entry))) (now (input .exit)) (now (out .exit)) r ⌝ }
-{
-    let came = read_more(fd, input, held);
-    let got = came.count;
-    let end = held + got;
-    let done = list_piece(&input[..end], offset, out, got == 0);
-    let put = done.put;
-    let used = done.used;
-    let is_written = write_out(&out[..put]);
-    move_down(input, used, end - used);
-    Next {
-        offset: offset + used as u64,
-        held: end - used,
-        over: done.over | !is_written,
-        failed: came.failed | !is_written,
-    }
-}
-
-fn input_buffer() -> [u8; PIECE]
-    ensures { λ r. ⌜ pieceBytes ≡ length r ⌝ }
-{
-    [0; PIECE]
-}
-
-// Lists what is read from fd on standard output. The answer is false where a read or a write failed, or the offset came to its limit.
-// Each turn but the last reads a byte or more, so offset and bytes held grow to their limit.
-pub fn list(fd: i32) -> bool {
-    let mut space = input_buffer();
-    let mut text = io::large_buffer();
-    let input: &mut [u8] = &mut space;
-    let out: &mut [u8] = &mut text;
-    let mut offset = 0;
-    let mut held = 0;
-    while offset < GREATEST_OFFSET {
-        let t = turn(fd, input, out, offset, held);
-        if t.over {
-            return !t.failed;
-        }
-        offset = t.offset;
-        held = t.held;
-    }
-    false
-}
-
-// Lists standard input.
-pub fn run() {
-    list(STDIN_FILENO);
 }
 
 // The laws by which input that comes in pieces is listed as the whole.

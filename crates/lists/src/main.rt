@@ -16,7 +16,7 @@ fn list_file(name: &[u8]) {
         say(b"cannot be opened\n");
         return;
     }
-    if !lister::list(fd) {
+    if !turns::list(fd) {
         say(b"not listed to its end\n");
     }
     libc::close(fd);

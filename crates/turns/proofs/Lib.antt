@@ -1,0 +1,3 @@
+pub mod Turnings
+pub mod Runs
+pub mod Worlds
