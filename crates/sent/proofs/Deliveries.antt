@@ -1,5 +1,5 @@
 -- What a delivery leaves in the output is the reply to a sound message, and is read. Assumes nothing.
-use Prim.Native.Nat.{ℕ, zero, suc}
+use Prim.Native.Nat.{ℕ, zero, suc, _-_}
 use mathlib.Core.Path.{_≡_, refl, sym, ap, _∙_}
 use mathlib.Core.Bool.{Bool, true, false, cond}
 use mathlib.Core.List.{List, [], _∷_, _++_}
@@ -53,7 +53,7 @@ module _ (r : Record) (area : List ℕ) (n : ℕ) (piece out : List ℕ) (a : Oc
 
   replied-by : (k l : ℕ) (x : Decision) → decide bytes ≡ x
       → deliveredBy x (r .device) area n (heldAt r n) piece bytes out .answer ≡ deliveryNumbers (Message k l)
-      → Replied r area n piece out l (deliveredBy x (r .device) area n (heldAt r n) piece bytes out .output)
+      → Replied r area n piece out k l (deliveredBy x (r .device) area n (heldAt r n) piece bytes out .output)
   unfolding deliveredBy messaged atFront
   replied-by k l Undecided e q = absurd (omega (arith, ap length q))
   replied-by k l (Faulty f t) e q = absurd (omega (arith, ap (λ (y : List ℕ). getD y 1 0) q))
@@ -65,6 +65,7 @@ module _ (r : Record) (area : List ℕ) (n : ℕ) (piece out : List ℕ) (a : Oc
         message = m;
         front = ap (λ (j : ℕ). take j bytes) (sym (d .0));
         sound = d .1;
+        bytes = sym (ap (λ (y : List ℕ). getD y 2 0) q) ∙ ap (λ (j : ℕ). j - heldAt r n) (sym (d .0));
         size = sym s;
         output = refl;
         read = rw (← s) (reply-read (r .device) n m (octets-take t bytes bytes-small) (d .1) (drop (length (replyTo (r .device) n m)) out));
@@ -74,7 +75,7 @@ module _ (r : Record) (area : List ℕ) (n : ℕ) (piece out : List ℕ) (a : Oc
   delivered-by : (k l : ℕ) (o s v short : Bool)
       → cond o (cond s (cond v (cond short (refused noRoom r area out) (withIntake r n (takenIn (r .device) area n (heldAt r n) piece out))) (refused noConnection r area out)) (refused badArea r area out)) (refused badRecord r area out) .answer
       ≡ deliveryNumbers (Message k l)
-      → Replied r area n piece out l
+      → Replied r area n piece out k l
       (cond o (cond s (cond v (cond short (refused noRoom r area out) (withIntake r n (takenIn (r .device) area n (heldAt r n) piece out))) (refused noConnection r area out)) (refused badArea r area out)) (refused badRecord r area out) .output)
   unfolding takenIn
   delivered-by k l false s v short q = absurd (omega (arith, ap length q))
@@ -84,7 +85,7 @@ module _ (r : Record) (area : List ℕ) (n : ℕ) (piece out : List ℕ) (a : Oc
   delivered-by k l true true true false q = replied-by k l (decide bytes) refl q
 
   pub delivered : (k l : ℕ) → deliverCall r area n piece out .answer ≡ deliveryNumbers (Message k l)
-      → Replied r area n piece out l (deliverCall r area n piece out .output)
+      → Replied r area n piece out k l (deliverCall r area n piece out .output)
   unfolding deliverCall
   delivered k l q =
       delivered-by k l (recordObeys r) (areaSound (r .held) area) (liveAt (r .device .connections) n) (ltb (length out) leastOutput) q

@@ -3,4 +3,5 @@ pub mod Responses
 pub mod Replies
 pub mod Deliveries
 pub mod Longest
+pub mod Bits
 pub mod Sends

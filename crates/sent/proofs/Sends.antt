@@ -1,6 +1,6 @@
 -- SentIsRead, put together. Assumes nothing.
 use Rattle.sent.specs.Sent.{SentIsRead}
-use Rattle.sent.proofs.Takes.{beat-read, reminded, notified}
+use Rattle.sent.proofs.Takes.{beat-read, reminded}
 use Rattle.sent.proofs.Replies.{reply-read}
 use Rattle.sent.proofs.Deliveries.{delivered}
 
@@ -9,7 +9,6 @@ sent-is-read =
     record {
       beats = beat-read;
       reminded = reminded;
-      notified = notified;
       replied = λ d n m rest o s. reply-read d n m o s rest;
       delivered = λ r area n piece out k l a p e. delivered r area n piece out a p k l e;
     }

@@ -57,7 +57,7 @@ use Rattle.endpoint.specs.State.{recordObeys}
 use Rattle.endpoint.specs.Outcome.{Outcome, refused}
 use Rattle.endpoint.specs.Take.{withDispatch, takeCall}
 use Rattle.endpoint.specs.declared.Record.{Record}
-use Rattle.sent.specs.Sent.{levelOf, indexOf, BeatRead, NotificationRead, Words, waitingEntry, waitingValue}
+use Rattle.sent.specs.Sent.{levelOf, indexOf, BeatRead, NotificationRead, waitingEntry, waitingValue}
 
 -- ---- keep-alives
 body-read : (h : Heartbeat) (body rest : List ℕ) → sizeOf body ≤ greatestSize → keepAliveFill body ≡ true
@@ -124,6 +124,12 @@ low v = omega arith
 one-made : (e : Subscription) (value : ℕ) → entriesFill 1 notification (notificationEntry e value) ≡ true
 unfolding entriesFill entrySize entryFits countFits leastEntry countPlace leastCount be32At notificationEntry subscriberBytes changeBytes bytes32
 one-made e value = refl
+
+-- what no record rule bounds is of 32 bits, as the entry's declaration says: definitions have numbers of any size
+pub record Words (e : Subscription) : Type 0 where
+  pub object : e .object < 4294967296
+  pub method : e .method < 4294967296
+  pub context : e .context < 4294967296
 
 -- the numbers of an entry that are sent
 pub record Told (e : Subscription) : Type 0 where
@@ -235,7 +241,7 @@ module _ (r : Record) (out : List ℕ) where
       rw (← en, ← el) (beat-read h (drop (length m) out) (kept-fits (getD (r .device .connections) k closed) (connection-keeps r k q)))
 
   notified-by : (n l : ℕ) (o short waits due : Bool) → recordObeys r ≡ o → Words (waitingEntry r) → By o short waits due .answer ≡ takingNumbers (Notification n l)
-      → NotificationRead (By o short waits due .output) l (waitingEntry r) (waitingValue r)
+      → (n ≡ waitingEntry r .connection) × NotificationRead (By o short waits due .output) l (waitingEntry r) (waitingValue r)
   unfolding takenBy notifying reminding atFront
   notified-by n l false short waits due q t e = absurd (omega (arith, ap length e))
   notified-by n l true true waits due q t e = absurd (omega (arith, ap length e))
@@ -246,8 +252,7 @@ module _ (r : Record) (out : List ℕ) where
       let m = notificationAt (r .device) i in
       let el : length m ≡ l = ap (λ (x : List ℕ). getD x 3 0) e in
       let l41 : l ≡ 41 = sym el ∙ length-notification (waitingEntry r) (waitingValue r) in
-      rw l41
-      (notification-read (waitingEntry r) (waitingValue r) (drop (length m) out) (entry-told (r .device .connections) (waitingEntry r) (entry-keeps r i q) t))
+      (sym (ap (λ (x : List ℕ). getD x 2 0) e), rw l41 (notification-read (waitingEntry r) (waitingValue r) (drop (length m) out) (entry-told (r .device .connections) (waitingEntry r) (entry-keeps r i q) t)))
 
   pub reminded : (n l : ℕ) → takeCall r out .answer ≡ takingNumbers (KeepAlive n l)
       → BeatRead (takeCall r out .output) l (heartbeatKept (getD (r .device .connections) n closed))
@@ -255,6 +260,6 @@ module _ (r : Record) (out : List ℕ) where
   reminded n l e = reminded-by n l (recordObeys r) short? waits? due? refl e
 
   pub notified : (n l : ℕ) → Words (waitingEntry r) → takeCall r out .answer ≡ takingNumbers (Notification n l)
-      → NotificationRead (takeCall r out .output) l (waitingEntry r) (waitingValue r)
+      → (n ≡ waitingEntry r .connection) × NotificationRead (takeCall r out .output) l (waitingEntry r) (waitingValue r)
   unfolding takeCall
   notified n l t e = notified-by n l (recordObeys r) short? waits? due? refl t e

@@ -1,5 +1,5 @@
 -- What the device sends is read: each message with whatever bytes stand behind it, as in an output. R19 to R21, R31, R35, R36, R48, R49.
-use Prim.Native.Nat.{ℕ, _/_, _%_, _≤_, _<_}
+use Prim.Native.Nat.{ℕ, _-_, _/_, _%_, _≤_, _<_}
 use mathlib.Core.Path.{_≡_}
 use mathlib.Core.List.{List, [], _∷_, _++_}
 use mathlib.Core.Bool.{true}
@@ -61,12 +61,6 @@ pub record NotificationRead (s : List ℕ) (n : ℕ) (e : Subscription) (value :
       ∷ e .context ∷ e .emitter ∷ levelOf (e .event) ∷ indexOf (e .event) ∷ []
   pub part : partOf s 0 ≡ 0 ∷ 4 ∷ 0 ∷ 1 ∷ value ∷ 1 ∷ []
 
--- R44. What no record rule bounds is of 32 bits, as the entry's declaration says: definitions have numbers of any size.
-pub record Words (e : Subscription) : Type 0 where
-  pub object : e .object < 4294967296
-  pub method : e .method < 4294967296
-  pub context : e .context < 4294967296
-
 -- R49. The lowest entry that waits.
 abbrev pub waitingEntry : Record → Subscription
 waitingEntry r = subscriptionAt (r .device) (lowestWaiting (r .device .subscriptions))
@@ -119,18 +113,20 @@ pub record ReplyRead (d : Device) (n : ℕ) (m s : List ℕ) (l : ℕ) : Type 0 
       → ResponsesRead s l (messageCount m) (handleAt m) (answerAt d n m)
   -- and is refused for its size if it is longer
   pub long : pduType m ≡ commandWantingReply → longestMessage < l → readOf s ≡ fault ∷ faultSize ∷ []
+  -- none is longer than this
   pub short : l ≤ longestReply
 
--- R31. A delivery with l reply bytes: the message is the front of the undecided bytes and the piece, the reply the output's front.
-pub record Replied (r : Record) (area : List ℕ) (n : ℕ) (piece out : List ℕ) (l : ℕ) (after : List ℕ) : Type 0 where
+-- R31. A delivery of k bytes taken and l of reply: the message is the front of the undecided bytes and the piece, the reply the output's.
+pub record Replied (r : Record) (area : List ℕ) (n : ℕ) (piece out : List ℕ) (k l : ℕ) (after : List ℕ) : Type 0 where
   pub message : List ℕ
   pub front : message ≡ take (length message) (undecidedOf area n (heldAt r n) ++ piece)
   pub sound : decide message ≡ Sound (length message)
+  pub bytes : k ≡ length message - heldAt r n
   pub size : l ≡ length (replyTo (r .device) n message)
   pub output : after ≡ atFront (replyTo (r .device) n message) out
   pub read : ReplyRead (r .device) n message after l
 
--- Theorem. Every keep-alive, notification and reply is decided sound, and read as what it is of.
+-- Theorem. Every keep-alive and every reply is decided sound, and read as what it is of.
 pub record SentIsRead : Type 0 where
   -- every keep-alive
   pub beats : (h : Heartbeat) (rest : List ℕ) → fitsForm h ≡ true
@@ -138,14 +134,16 @@ pub record SentIsRead : Type 0 where
   -- one that is taken: the output is read as the heartbeat of the connection that is named
   pub reminded : (r : Record) (out : List ℕ) (n l : ℕ) → takeCall r out .answer ≡ takingNumbers (KeepAlive n l)
       → BeatRead (takeCall r out .output) l (heartbeatKept (getD (r .device .connections) n closed))
-  -- a notification that is taken: the output is read as the lowest waiting entry, with the value of that moment
-  pub notified : (r : Record) (out : List ℕ) (n l : ℕ) → Words (waitingEntry r)
-      → takeCall r out .answer ≡ takingNumbers (Notification n l)
-      → NotificationRead (takeCall r out .output) l (waitingEntry r) (waitingValue r)
   -- every reply
   pub replied : (d : Device) (n : ℕ) (m rest : List ℕ) → Octets m → decide m ≡ Sound (length m)
       → ReplyRead d n m (replyTo d n m ++ rest) (length (replyTo d n m))
   -- and what a delivery leaves in the output, where it answers that there was a message
   pub delivered : (r : Record) (area : List ℕ) (n : ℕ) (piece out : List ℕ) (k l : ℕ) → Octets area → Octets piece
       → deliverCall r area n piece out .answer ≡ deliveryNumbers (Message k l)
-      → Replied r area n piece out l (deliverCall r area n piece out .output)
+      → Replied r area n piece out k l (deliverCall r area n piece out .output)
+
+-- Theorem. Every notification that a take leaves in the output is read as the lowest waiting entry, with the value of that moment.
+pub record NotifiedIsRead (r : Record) : Type 0 where
+  -- and the connection that is named is the entry's
+  pub notified : (out : List ℕ) (n l : ℕ) → takeCall r out .answer ≡ takingNumbers (Notification n l)
+      → (n ≡ waitingEntry r .connection) × NotificationRead (takeCall r out .output) l (waitingEntry r) (waitingValue r)
