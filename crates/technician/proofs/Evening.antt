@@ -7,9 +7,8 @@ use native.Mathlib.Omega.{arith}
 use lib.Dec.{eqb, ltb}
 use lib.ListN.{length, getD, take}
 use lib.Seq.{getD-set-other}
-use borrow.Author.Tests.{le-ltb, ltb-true, eqb-false}
-use Rattle.laws.specs.Lists.{all}
-use Rattle.laws.proofs.Conds.{and-left, and-right, either}
+use borrow.Author.Tests.{le-ltb, eqb-false}
+use Rattle.laws.proofs.Conds.{either}
 use Rattle.octets.specs.Numbers.{Octets, bytes32}
 use Rattle.octets.specs.Zeros.{zeros}
 use Rattle.octets.proofs.Scans.{length-zeros}
@@ -28,7 +27,6 @@ use Rattle.device.specs.Time.{stepOf}
 use Rattle.device.specs.declared.Opening.the-variants as opens
 use Rattle.stream.specs.Machine.{deliver, ask}
 use Rattle.stream.specs.Promise.{AllBytes}
-use Rattle.stream.proofs.Bytes.{octets-nil}
 use Rattle.answers.specs.Numbers.{openingNumbers}
 use Rattle.answers.specs.declared.Opening.the-variants as openings
 use Rattle.endpoint.specs.State.{stateOf, freshState, recordObeys}
@@ -56,11 +54,6 @@ use Rattle.technician.proofs.Heard.{heard, heard-decided, heard-front, 
 use Rattle.technician.proofs.Technician.{technician-let-in}
 
 -- ---- bytes
-octets-of : (l : List ℕ) → all (λ (x : ℕ). ltb x 256) l ≡ true → Octets l
-octets-of [] e i = octets-nil i
-octets-of (x ∷ l) e zero = ltb-true x 256 (and-left (ltb x 256) _ e)
-octets-of (x ∷ l) e (suc i) = octets-of l (and-right (ltb x 256) _ e) i
-
 room : leastOutput ≤ length lent
 room = omega (arith, length-zeros leastOutput)
 
@@ -167,17 +160,14 @@ record Two (r : Record) (area : List ℕ) : Type 0 where
   free : getD (r .device .holders) 4 0 ≡ 0
   has : 4 < length (r .device .holders)
 
-lock-octets : (handle : ℕ) → all (λ (x : ℕ). ltb x 256) (lockBytes handle 4) ≡ true → Octets (lockBytes handle 4)
-lock-octets handle e = octets-of (lockBytes handle 4) e
-
 octets-7 : Octets (lockBytes 7 4)
-octets-7 = lock-octets 7 (unfold lockBytes bytes32 in refl)
+octets-7 = locks.lock-octets 7 4 (omega arith)
 
 octets-8 : Octets (take 13 (lockBytes 8 4))
-octets-8 = octets-take 13 (lockBytes 8 4) (lock-octets 8 (unfold lockBytes bytes32 in refl))
+octets-8 = octets-take 13 (lockBytes 8 4) (locks.lock-octets 8 4 (omega arith))
 
 octets-9 : Octets (lockBytes 9 4)
-octets-9 = lock-octets 9 (unfold lockBytes bytes32 in refl)
+octets-9 = locks.lock-octets 9 4 (omega arith)
 
 module _ (r : Record) (area : List ℕ) (two : Two r area) (m : List ℕ) (sound : decide m ≡ Sound (length m)) (kind : pduType m ≡ keepAlive) (bytes : Octets m) where
   -- the keep-alive
@@ -409,9 +399,9 @@ evening-in-a-hall =
       tablet = ap (λ (o : Outcome). o .answer) opens-0;
       technician = ap (λ (o : Outcome). openCall (o .state) .answer) opens-0 ∙ ap (λ (o : Outcome). o .answer) opens-1;
       twoSeconds =
-          taken-over (hall .0) (hall .1) hall-two keepAlive2s (two .sound) refl (octets-of keepAlive2s refl) 2000 5999 6000 1 (two .beat) refl (omega arith) refl (omega arith) refl (omega arith)
+          taken-over (hall .0) (hall .1) hall-two keepAlive2s (two .sound) refl (locks.octets-all keepAlive2s refl) 2000 5999 6000 1 (two .beat) refl (omega arith) refl (omega arith) refl (omega arith)
           (omega arith);
       thirtySeconds =
-          taken-over (hall .0) (hall .1) hall-two keepAlive30s (thirty .sound) refl (octets-of keepAlive30s refl) 30000 89999 90000 1 (thirty .beat) refl (omega arith) refl (omega arith) refl (omega arith)
+          taken-over (hall .0) (hall .1) hall-two keepAlive30s (thirty .sound) refl (locks.octets-all keepAlive30s refl) 30000 89999 90000 1 (thirty .beat) refl (omega arith) refl (omega arith) refl (omega arith)
           (omega arith);
     }

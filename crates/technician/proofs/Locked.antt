@@ -1,14 +1,16 @@
 -- The 27 bytes of a lock, delivered on a connection with none of its bytes waiting: for Technician. Assumes nothing.
-use Prim.Native.Nat.{ℕ, _+_, _*_, _/_, _%_, _^_, _<_}
-use mathlib.Core.Path.{_≡_, refl, sym, ap, _∙_}
+use Prim.Native.Nat.{ℕ, zero, suc, _+_, _*_, _/_, _%_, _^_, _<_}
+use mathlib.Core.Path.{_≡_, refl, sym, ap, subst, _∙_}
 use mathlib.Core.Bool.{true, false}
 use mathlib.Core.List.{List, [], _∷_, _++_}
 use native.Mathlib.Omega.{arith}
-use lib.Dec.{eqb}
+use lib.Dec.{eqb, ltb}
 use lib.ListN.{length, getD, set, take, drop}
 use lib.Seq.{getD-set-same}
-use borrow.Author.Tests.{le-ltb, lt-ltb}
-use Rattle.octets.specs.Numbers.{be16At, be32At, bytes16, bytes32}
+use borrow.Author.Tests.{le-ltb, lt-ltb, ltb-true}
+use Rattle.laws.specs.Lists.{all, joined}
+use Rattle.laws.proofs.Conds.{and-left, and-right}
+use Rattle.octets.specs.Numbers.{be16At, be32At, bytes16, bytes32, Octets}
 use Rattle.octets.proofs.Digits.{be32-bytes}
 use Rattle.frame.specs.Limits.{headerEnd}
 use Rattle.frame.specs.Header.{countFault, fieldsFault, headerFault}
@@ -37,9 +39,13 @@ use Rattle.endpoint.specs.Outcome.{Outcome}
 use Rattle.endpoint.specs.Deliver.{withIntake, deliverCall}
 use Rattle.endpoint.specs.declared.Record.{Record}
 use Rattle.endpoint.proofs.States.{live-low}
+use Rattle.stream.proofs.Bytes.{octets-nil, octets-append}
+use Rattle.feed.specs.Feed.{Feeding, unfed, isMessage, bytesTaken, replyLength, messageTold, offer, feedMore, feedPiece, feedOf}
+use Rattle.cutting.specs.Cutting.{SameEnd, feedAll}
+use Rattle.cutting.proofs.Walks.{cutting}
 use Rattle.promise.specs.Kept.{Kept}
 use Rattle.promise.proofs.Locks.{other-holds}
-use Rattle.technician.specs.Lock.{lockBytes, replyBytes, CanAsk, lockCall, Answered}
+use Rattle.technician.specs.Lock.{lockBytes, replyBytes, CanAsk, lockCall, lockFed, Answered}
 
 -- ---- the bytes
 pub lock-decided : (handle at : ℕ) → decide (lockBytes handle at) ≡ Sound 27
@@ -113,6 +119,54 @@ reply-length : (handle status : ℕ) → length (replyBytes handle status) ≡ 2
 unfolding replyBytes bytes32
 reply-length handle status = refl
 
+-- ---- the bytes are bytes, however they are cut
+octet-on : (x : ℕ) (l : List ℕ) → x < 256 → Octets l → Octets (x ∷ l)
+octet-on x l h o zero = h
+octet-on x l h o (suc i) = o i
+
+pub octets-all : (l : List ℕ) → all (λ (x : ℕ). ltb x 256) l ≡ true → Octets l
+octets-all [] e = octets-nil
+octets-all (x ∷ l) e = octet-on x l (ltb-true x 256 (and-left (ltb x 256) _ e)) (octets-all l (and-right (ltb x 256) _ e))
+
+handle-octets : (handle : ℕ) → Octets (bytes32 handle)
+unfolding bytes32
+handle-octets handle =
+    let a : List ℕ = handle % 256 ∷ [] in
+    let b : List ℕ = handle / 256 % 256 ∷ a in
+    let c : List ℕ = handle / 65536 % 256 ∷ b in
+    octet-on (handle / 16777216 % 256) c (omega arith)
+    (octet-on (handle / 65536 % 256) b (omega arith) (octet-on (handle / 256 % 256) a (omega arith) (octet-on (handle % 256) [] (omega arith) octets-nil)))
+
+pub lock-octets : (handle at : ℕ) → at < 8 → Octets (lockBytes handle at)
+unfolding lockBytes
+lock-octets handle at low =
+    let head : List ℕ = 0x3B ∷ 0x00 ∷ 0x01 ∷ 0x00 ∷ 0x00 ∷ 0x00 ∷ 0x1A ∷ 0x01 ∷ 0x00 ∷ 0x01 ∷ 0x00 ∷ 0x00 ∷ 0x00 ∷ 0x11 ∷ [] in
+    let front : List ℕ = 0x00 ∷ 0x00 ∷ 0x10 ∷ [] in
+    let behind : List ℕ = 0x00 ∷ 0x01 ∷ 0x00 ∷ 0x03 ∷ 0x00 ∷ [] in
+    let end = octets-append front ((0x01 + at) ∷ behind) (octets-all front refl) (octet-on (0x01 + at) behind (omega arith) (octets-all behind refl)) in
+    octets-append head (bytes32 handle ++ (front ++ ((0x01 + at) ∷ behind))) (octets-all head refl)
+    (octets-append (bytes32 handle) (front ++ ((0x01 + at) ∷ behind)) (handle-octets handle) end)
+
+-- in one piece, they are taken by one offer
+fed-whole : (r : Record) (area : List ℕ) (k handle at : ℕ) (out : List ℕ) → lockCall r area k handle at out .answer ≡ 0 ∷ 2 ∷ 27 ∷ 20 ∷ []
+    → feedOf r area k (lockBytes handle at) out ≡ lockFed r area k handle at out
+fed-whole r area k handle at out e = first ∙ second
+  where
+    once : offer k (unfed r area out) (lockBytes handle at) ≡ lockFed r area k handle at out
+    once = unfold offer isMessage replyLength messageTold in rw e refl
+
+    first : feedOf r area k (lockBytes handle at) out ≡ feedMore 27 k (drop (bytesTaken (lockCall r area k handle at out .answer)) (lockBytes handle at)) (lockFed r area k handle at out)
+    first = unfold feedOf feedPiece in rw once (unfold lockBytes bytes32 in refl)
+
+    second : feedMore 27 k (drop (bytesTaken (lockCall r area k handle at out .answer)) (lockBytes handle at)) (lockFed r area k handle at out) ≡ lockFed r area k handle at out
+    second = unfold feedMore isMessage lockBytes bytes32 in rw e refl
+
+cut-anywhere : (r : Record) (area : List ℕ) (k handle at : ℕ) (out : List ℕ) → Kept r area → at < 8 → lockCall r area k handle at out .answer ≡ 0 ∷ 2 ∷ 27 ∷ 20 ∷ []
+    → (pieces : List (List ℕ)) → joined pieces ≡ lockBytes handle at → SameEnd (feedAll k (unfed r area out) pieces) (lockFed r area k handle at out)
+cut-anywhere r area k handle at out w low e pieces q =
+    let s = cutting .uncut r area k out pieces w (subst (λ (x : List ℕ). Octets x) (sym q) (lock-octets handle at low)) in
+    subst (λ (x : Feeding). SameEnd (feedAll k (unfed r area out) pieces) x) (ap (λ (x : List ℕ). feedOf r area k x out) q ∙ fed-whole r area k handle at out e) s
+
 -- ---- the delivery
 module _ (r : Record) (area : List ℕ) (k handle at : ℕ) (out : List ℕ) (w : Kept r area) (c : CanAsk r k handle at out) where
   lock-delivered : lockCall r area k handle at out ≡ withIntake r k (messaged (soundOf (r .device) k (lockBytes handle at)) area k 27 out)
@@ -139,10 +193,12 @@ module _ (r : Record) (area : List ℕ) (k handle at : ℕ) (out : List ℕ) (w 
       → getD (e .holders) at 0 ≡ n + 1 → Answered r area k handle at out status n
   unfolding messaged sentAt
   answered e status n g h =
+      let a = ap (λ (o : Outcome). o .answer) g ∙ ap (λ (x : ℕ). 0 ∷ 2 ∷ 27 ∷ x ∷ []) (reply-length handle status) in
       record {
-        answer = ap (λ (o : Outcome). o .answer) g ∙ ap (λ (x : ℕ). 0 ∷ 2 ∷ 27 ∷ x ∷ []) (reply-length handle status);
+        answer = a;
         output = ap (λ (o : Outcome). o .output) g;
         holder = ap (λ (o : Outcome). getD (o .state .device .holders) at 0) g ∙ h;
+        cut = cut-anywhere r area k handle at out w (c .channel) a;
       }
 
   -- another holds it

@@ -4,6 +4,8 @@ use mathlib.Core.Path.{_≡_}
 use mathlib.Core.Bool.{Bool, true, false, not, _&&_}
 use mathlib.Core.List.{List, [], _∷_, _++_}
 use lib.ListN.{length, getD, take}
+use Rattle.numbers.specs.Kind.{kindMessage}
+use Rattle.laws.specs.Lists.{joined}
 use Rattle.octets.specs.Numbers.{bytes32}
 use Rattle.frame.specs.Decide.{decide, taken}
 use Rattle.layout.specs.Message.{atFront}
@@ -16,6 +18,8 @@ use Rattle.stream.specs.Machine.{deliver, ask}
 use Rattle.endpoint.specs.Outcome.{Outcome}
 use Rattle.endpoint.specs.Deliver.{heldAt, deliverCall}
 use Rattle.endpoint.specs.declared.Record.{Record}
+use Rattle.feed.specs.Feed.{Feeding, feeding, unfed}
+use Rattle.cutting.specs.Cutting.{SameEnd, feedAll}
 use Rattle.promise.specs.Calls.{HostCall, callOf}
 use Rattle.promise.specs.Heartbeats.{broughtBy}
 use Rattle.promise.specs.Reset.{asksIn}
@@ -48,11 +52,20 @@ pub record CanAsk (r : Record) (k handle at : ℕ) (out : List ℕ) : Type 0 whe
 abbrev pub lockCall : Record → List ℕ → ℕ → ℕ → ℕ → List ℕ → Outcome
 lockCall r area k handle at out = deliverCall r area k (lockBytes handle at) out
 
+-- R28. How far a host has come by it: 27 bytes are taken, and one reply of 20 bytes is put.
+abbrev pub lockFed : Record → List ℕ → ℕ → ℕ → ℕ → List ℕ → Feeding
+lockFed r area k handle at out =
+    let o = lockCall r area k handle at out in
+    feeding (o .answer) (o .state) (o .area) (o .output) 27 20 ((kindMessage ∷ 20 ∷ []) ∷ [])
+
 -- R35, R42. The 27 bytes of connection k are answered by the 20 bytes with that status, and the channel is then connection n's.
 pub record Answered (r : Record) (area : List ℕ) (k handle at : ℕ) (out : List ℕ) (status n : ℕ) : Type 0 where
   pub answer : lockCall r area k handle at out .answer ≡ deliveryNumbers (deliveries.Message 27 20)
   pub output : lockCall r area k handle at out .output ≡ atFront (replyBytes handle status) out
   pub holder : holderIn (lockCall r area k handle at out .state) at ≡ n + 1
+  -- and in whatever pieces they come, a host that feeds them comes to the same
+  pub cut : (pieces : List (List ℕ)) → joined pieces ≡ lockBytes handle at
+      → SameEnd (feedAll k (unfed r area out) pieces) (lockFed r area k handle at out)
 
 -- R42. By this call a message is whole that asks for the lock of the channel at that place.
 unfoldable pub asksNow : ℕ → Record → List ℕ → HostCall → Bool

@@ -69,7 +69,7 @@ fn portion(most: usize, left: usize, room: usize) -> usize
     least(most, n)
 }
 
-// ReadsMore from place at of the tape behind the bytes held.
+// Reads from place at of the tape behind the bytes held.
 fn read_tape(tape: &[u8], at: usize, most: usize, buf: &mut [u8], held: usize) -> usize
     requires { ⌜ held < length (now buf) ⌝ }
     ensures { λ r. ⌜ (held + r ≤ length (now (buf .entry))) × (r ≤ length (drop at (now (tape .entry))))
@@ -85,7 +85,7 @@ fn read_tape(tape: &[u8], at: usize, most: usize, buf: &mut [u8], held: usize) -
     n
 }
 
-// ReadsMore behind the bytes held, the first of which stands at the offset.
+// Reads behind the bytes held, the first of which stands at the offset.
 fn read_more(source: Source, tape: &[u8], offset: u64, buf: &mut [u8], held: usize) -> Came
     requires { ⌜ (held < length (now buf)) × (offset + held < 18446744073709551616) ⌝ }
     ensures { λ r. ⌜ ReadsMore (source .taped) (now (tape .entry)) (offset + held) held (now (buf .entry)) (now (buf .exit)) r ⌝ }
@@ -129,7 +129,7 @@ fn keep(s: &[u8], text: &mut [u8], handed: usize) -> Wrote
     }
 }
 
-// HandsOver s over to be written, or kept behind the text.
+// Hands s over to be written, or kept behind the text.
 fn hand_over(source: Source, s: &[u8], text: &mut [u8], handed: usize) -> Wrote
     requires { ⌜ handed ≤ length (now text) ⌝ }
     ensures { λ r. ⌜ HandsOver (source .taped) (now (s .entry)) (now (text .entry)) handed (now (text .exit)) r ⌝ }
@@ -147,7 +147,7 @@ fn hand_over(source: Source, s: &[u8], text: &mut [u8], handed: usize) -> Wrote
     }
 }
 
-// ReadsMore once, lists what came behind the bytes held, hands the text over, and keeps what is left.
+// Reads once, lists what came behind the bytes held, hands the text over, and keeps what is left.
 fn turn(
     source: Source,
     tape: &[u8],
