@@ -12,12 +12,14 @@ use Rattle.frame.specs.declared.Decision.the-variants.{Undecided, Faulty, Sound
 use Rattle.frame.proofs.Ways.{deciding}
 use Rattle.connection.specs.State.{liveAt}
 use Rattle.device.specs.declared.Device.{Device}
-use Rattle.stream.specs.Machine.{deliver, handed, Held, put, only, whole, delivered, step}
+use Rattle.stream.specs.Machine.{deliver, handed, Held, put, only}
+use Rattle.stream.specs.Scaffold.{whole, delivered, step}
 use Rattle.endpoint.specs.Outcome.{Outcome, outcome}
 use Rattle.endpoint.specs.Deliver.{deliverCall}
 use Rattle.feed.specs.Feed.{Feeding, feeding, isMessage, bytesTaken, replyLength, messageTold, offer}
 use Rattle.promise.specs.Rulebook.{Given, rule, open?, admit, messageBy}
-use Rattle.promise.specs.Calls.{callOf, recordWith, areaWith, withTaken, outcomeOf}
+use Rattle.promise.specs.Calls.{callOf, recordWith, areaWith, withTaken}
+use Rattle.promise.specs.Scaffold.{outcomeOf}
 use Rattle.promise.proofs.OpenConnections.{GoodAt, live-gone}
 use Rattle.promise.proofs.Calls.{told}
 use Rattle.promise.proofs.Kept.{next}

@@ -9,7 +9,8 @@ use lib.Seq.{take-take, take-append-seam, length-take-le}
 use Rattle.octets.specs.Zeros.{zeros}
 use Rattle.frame.specs.Decide.{decide, taken, settled}
 use Rattle.frame.proofs.Ways.{deciding}
-use Rattle.frame.proofs.Bytes.{part-waits, before-waits, beyond}
+use Rattle.frame.proofs.Bytes.{part-waits, beyond}
+use Rattle.split.specs.Exactly.{LastDecides}
 use Rattle.area.specs.Area.{areaBytes}
 use Rattle.device.specs.State.{freshOf}
 use Rattle.device.specs.declared.Device.{Device}
@@ -24,7 +25,7 @@ use Rattle.promise.specs.Rulebook.{Given, rule, open?, admit}
 use Rattle.promise.specs.Calls.{HostCall, callOf, runCalls, recordWith, areaWith}
 use Rattle.promise.specs.Scaffold.{outcomeOf}
 use Rattle.promise.specs.Kept.{heldIn, Kept}
-use Rattle.promise.specs.Whole.{upTo, Turn, tells, hands, turnBy, turnOf, deviceBy, turnsOf, wholesIn, withBytes, toldIn, hostSees, EndsDeciding, AllEndDeciding, byRules, bytesWaiting, AsRules, DemandThree}
+use Rattle.promise.specs.Whole.{upTo, Turn, tells, hands, turnBy, turnOf, deviceBy, turnsOf, wholesIn, withBytes, toldIn, hostSees, AllEndDeciding, byRules, bytesWaiting, AsRules, DemandThree}
 use Rattle.promise.proofs.OpenConnections.{GoodAt, only-same}
 use Rattle.promise.proofs.Calls.{told}
 use Rattle.promise.proofs.HeldBytes.{kept-good, kept-counts, kept-area}
@@ -65,13 +66,13 @@ up-decides bytes (b ∷ piece) u e =
     go false s ih = rw (← (append-assoc bytes (b ∷ []) piece)) (ih s)
 
 -- the bytes taken end with the deciding one
-pub ends : (xs : List ℕ) → settled (decide xs) ≡ true → EndsDeciding (take (taken (decide xs)) xs)
+pub ends : (xs : List ℕ) → settled (decide xs) ≡ true → LastDecides (take (taken (decide xs)) xs)
 ends xs e =
     record {
       decided = ap settled (deciding .enough xs e) ∙ e;
       before = λ k l.
           let m : k < taken (decide xs) = omega (arith, length-take-le (taken (decide xs)) xs (deciding .within xs)) in
-          rw (take-take k (taken (decide xs)) xs (omega arith)) (before-waits xs k m);
+          rw (take-take k (taken (decide xs)) xs (omega arith)) (deciding .before xs k m);
     }
 
 -- ---- a step of the machine over pieces is a turn

@@ -1,11 +1,12 @@
 -- R81. DEMAND THREE: what the real calls give, from a fresh record on, is what the rules give over whole messages, and undecided bytes.
-use Prim.Native.Nat.{ℕ, zero, suc, _-_, _<_}
+use Prim.Native.Nat.{ℕ, zero, suc, _-_}
 use mathlib.Core.Path.{_≡_}
 use mathlib.Core.Bool.{Bool, cond, true, false}
 use mathlib.Core.List.{List, [], _∷_, _++_, map}
-use lib.ListN.{length, take}
+use lib.ListN.{length}
 use Rattle.octets.specs.Zeros.{zeros}
 use Rattle.frame.specs.Decide.{decide, settled}
+use Rattle.split.specs.Exactly.{LastDecides}
 use Rattle.area.specs.Area.{areaBytes}
 use Rattle.device.specs.State.{freshOf}
 use Rattle.device.specs.declared.Device.{Device}
@@ -89,15 +90,10 @@ hostSees o = given (o .answer) (o .output)
 
 -- ---- the theorem
 
--- R16. The last byte of m is its deciding byte: with it m is decided, before it m is not.
-pub record EndsDeciding (m : List ℕ) : Type 0 where
-  pub decided : settled (decide m) ≡ true
-  pub before : (k : ℕ) → k < length m → settled (decide (take k m)) ≡ false
-
--- R16, R81. So of every message among whole calls.
+-- R16, R81. Every message among whole calls ends with its deciding byte.
 unfoldable pub AllEndDeciding : List Asked → Type 0
 AllEndDeciding [] = Unit {0}
-AllEndDeciding (handed n m out ∷ ws) = EndsDeciding m × AllEndDeciding ws
+AllEndDeciding (handed n m out ∷ ws) = LastDecides m × AllEndDeciding ws
 AllEndDeciding (asked a ∷ ws) = AllEndDeciding ws
 
 module _ (d : Device) (h : Held) (calls : List HostCall) where
