@@ -14,9 +14,11 @@ use Rattle.frame.specs.declared.Decision.{Decision}
 use Rattle.frame.specs.declared.Decision.the-variants.{Undecided, Faulty, Sound}
 use Rattle.frame.proofs.Ways.{deciding}
 use Rattle.frame.proofs.Sounds.{sound-at}
-use Rattle.lister.specs.Listing.{messagesOf, bytesOf, linesOf, lastBy, lastLine, listedBytes, unlisted, listingFrom, listing}
+use Rattle.split.specs.Split.{soundMessages}
+use Rattle.split.proofs.Splits.{sound-none, sound-then}
+use Rattle.lister.specs.Listing.{bytesOf, linesOf, lastBy, lastLine, listedBytes, unlisted, listingFrom, listing}
 use Rattle.lister.specs.Pieces.{overBy, over, pieceText, printed, Pieces}
-use Rattle.lister.proofs.Walks.{Unsound, nothing-unsound, messages-none, messages-first, bytes-append, lines-append}
+use Rattle.lister.proofs.Walks.{Unsound, nothing-unsound, bytes-append, lines-append}
 
 -- bytes that are not sound at the front, or the message there
 data Front (s : List ℕ) : Type 0 where
@@ -34,7 +36,7 @@ front s = go (decide s) refl
 module _ (s : List ℕ) (u : Unsound s) where
   none-listed : listedBytes s ≡ 0
   unfolding listedBytes bytesOf
-  none-listed = ap bytesOf (messages-none s u)
+  none-listed = ap bytesOf (sound-none s u)
 
   none-unlisted : unlisted s ≡ s
   unfolding unlisted
@@ -49,7 +51,7 @@ module _ (s : List ℕ) (n : ℕ) (e : decide s ≡ Sound n) where
 
   first-bytes : listedBytes s ≡ n + listedBytes (drop n s)
   unfolding listedBytes bytesOf
-  first-bytes = ap bytesOf (messages-first s n e) ∙ ap (λ (k : ℕ). k + bytesOf (messagesOf (drop n s))) (length-take-le n s sound-within)
+  first-bytes = ap bytesOf (sound-then s n e) ∙ ap (λ (k : ℕ). k + bytesOf (soundMessages (drop n s))) (length-take-le n s sound-within)
 
   first-unlisted : unlisted s ≡ unlisted (drop n s)
   unfolding unlisted
@@ -75,25 +77,25 @@ left-unsound (suc k) s h = go (front s) (λ n e. left-unsound k (drop n s) (shor
     go (first n e) i = rw (first-unlisted s n e) (i n e)
 
 -- what stands behind s is read after what s leaves
-pub messages-more : (k : ℕ) (s t : List ℕ) → length s ≤ k → messagesOf (s ++ t) ≡ messagesOf s ++ messagesOf (unlisted s ++ t)
+pub messages-more : (k : ℕ) (s t : List ℕ) → length s ≤ k → soundMessages (s ++ t) ≡ soundMessages s ++ soundMessages (unlisted s ++ t)
 unfolding settled
 messages-more zero s t h =
     let u = nothing-unsound s h in
-    rw (none-unlisted s u, messages-none s u)
+    rw (none-unlisted s u, sound-none s u)
 messages-more (suc k) s t h = go (front s) (λ n e. messages-more k (drop n s) t (shorter s n e k h))
   where
-    go : Front s → ((n : ℕ) → decide s ≡ Sound n → messagesOf (drop n s ++ t) ≡ messagesOf (drop n s) ++ messagesOf (unlisted (drop n s) ++ t))
-        → messagesOf (s ++ t) ≡ messagesOf s ++ messagesOf (unlisted s ++ t)
-    go (none u) i = rw (none-unlisted s u, messages-none s u)
+    go : Front s → ((n : ℕ) → decide s ≡ Sound n → soundMessages (drop n s ++ t) ≡ soundMessages (drop n s) ++ soundMessages (unlisted (drop n s) ++ t))
+        → soundMessages (s ++ t) ≡ soundMessages s ++ soundMessages (unlisted s ++ t)
+    go (none u) i = rw (none-unlisted s u, sound-none s u)
     go (first n e) i =
         let d : decide (s ++ t) ≡ Sound n = deciding .lasting s t (ap settled e) ∙ e in
         let w = sound-within s n e in
-        messages-first (s ++ t) n d
-        ∙ rw (take-append-le n s t w, drop-append-le n s t w, i n e, messages-first s n e, first-unlisted s n e)
+        sound-then (s ++ t) n d
+        ∙ rw (take-append-le n s t w, drop-append-le n s t w, i n e, sound-then s n e, first-unlisted s n e)
 
 pub listed-more : (s t : List ℕ) → listedBytes (s ++ t) ≡ listedBytes s + listedBytes (unlisted s ++ t)
 unfolding listedBytes
-listed-more s t = ap bytesOf (messages-more (length s) s t (omega arith)) ∙ bytes-append (messagesOf s) (messagesOf (unlisted s ++ t))
+listed-more s t = ap bytesOf (messages-more (length s) s t (omega arith)) ∙ bytes-append (soundMessages s) (soundMessages (unlisted s ++ t))
 
 pub unlisted-more : (s t : List ℕ) → unlisted (s ++ t) ≡ unlisted (unlisted s ++ t)
 unfolding unlisted
@@ -103,14 +105,14 @@ unlisted-more s t =
     ∙ ap (drop (listedBytes (drop (listedBytes s) s ++ t))) (drop-append-le (listedBytes s) s t (listed-within s))
 
 -- the listing of s and what stands behind it
-pub listing-more : (at : ℕ) (s t : List ℕ) → listingFrom at (s ++ t) ≡ linesOf at (messagesOf s) ++ listingFrom (at + listedBytes s) (unlisted s ++ t)
+pub listing-more : (at : ℕ) (s t : List ℕ) → listingFrom at (s ++ t) ≡ linesOf at (soundMessages s) ++ listingFrom (at + listedBytes s) (unlisted s ++ t)
 unfolding listingFrom listedBytes
 listing-more at s t =
     let u = unlisted s ++ t in
     let m = messages-more (length s) s t (omega arith) in
     let b : at + listedBytes (s ++ t) ≡ at + listedBytes s + listedBytes u = omega (arith, listed-more s t) in
-    ap (λ (k : ℕ). linesOf at (messagesOf (s ++ t)) ++ lastLine k (unlisted (s ++ t))) b
-    ∙ rw (unlisted-more s t, m, lines-append at (messagesOf s) (messagesOf u)) (append-assoc (linesOf at (messagesOf s)) _ _)
+    ap (λ (k : ℕ). linesOf at (soundMessages (s ++ t)) ++ lastLine k (unlisted (s ++ t))) b
+    ∙ rw (unlisted-more s t, m, lines-append at (soundMessages s) (soundMessages u)) (append-assoc (linesOf at (soundMessages s)) _ _)
 
 -- a fault stands whatever follows
 listing-stopped : (at f n : ℕ) (u t : List ℕ) → decide u ≡ Faulty f n → listingFrom at (u ++ t) ≡ lastLine at u
@@ -118,7 +120,7 @@ unfolding listingFrom lastLine lastBy settled linesOf
 listing-stopped at f n u t e =
     let d : decide (u ++ t) ≡ Faulty f n = deciding .lasting u t (ap settled e) ∙ e in
     let x : Unsound (u ++ t) = λ k q. let z : _≡_ {A = ℕ} 0 1 = cc in omega arith in
-    rw (messages-none (u ++ t) x, none-listed (u ++ t) x, none-unlisted (u ++ t) x, d, e, add-zero)
+    rw (sound-none (u ++ t) x, none-listed (u ++ t) x, none-unlisted (u ++ t) x, d, e, add-zero)
 
 -- the end of the input
 pub end-over : (s : List ℕ) → over true s ≡ true
@@ -144,7 +146,7 @@ left s = go (decide (unlisted s)) refl
     go (Faulty f n) e = stops f n e (ap (overBy false) e)
     go (Sound n) e = absurd (left-unsound (length s) s (omega arith) n e)
 
-listing-parts : (at : ℕ) (s : List ℕ) → linesOf at (messagesOf s) ++ lastLine (at + listedBytes s) (unlisted s) ≡ listingFrom at s
+listing-parts : (at : ℕ) (s : List ℕ) → linesOf at (soundMessages s) ++ lastLine (at + listedBytes s) (unlisted s) ≡ listingFrom at s
 unfolding listingFrom
 listing-parts at s = refl
 
@@ -157,9 +159,9 @@ printed-from at held (p ∷ ps) =
     (go s (left s) (printed-from (at + listedBytes s) (unlisted s) ps))
   where
     go : (s : List ℕ) → Left s → printed (at + listedBytes s) (unlisted s) ps ≡ listingFrom (at + listedBytes s) (unlisted s ++ joined ps)
-        → (linesOf at (messagesOf s) ++ cond (over false s) (lastLine (at + listedBytes s) (unlisted s)) [])
+        → (linesOf at (soundMessages s) ++ cond (over false s) (lastLine (at + listedBytes s) (unlisted s)) [])
         ++ cond (over false s) [] (printed (at + listedBytes s) (unlisted s) ps)
-        ≡ linesOf at (messagesOf s) ++ listingFrom (at + listedBytes s) (unlisted s ++ joined ps)
+        ≡ linesOf at (soundMessages s) ++ listingFrom (at + listedBytes s) (unlisted s ++ joined ps)
     go s (stops f n e o) i = rw (o, listing-stopped (at + listedBytes s) f n (unlisted s) (joined ps) e) (append-nil _)
     go s (goes e o) i = rw (o, append-nil, i)
 

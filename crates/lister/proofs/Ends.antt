@@ -8,12 +8,13 @@ use lib.ListN.{length, drop}
 use Rattle.frame.specs.Decide.{decide}
 use Rattle.lines.specs.Scaffold.{lineRoom, PutsLine}
 use Rattle.lines.proofs.Putting.{puts-then, puts-length}
-use Rattle.lister.specs.Listing.{messagesOf, bytesOf, linesOf, lastLine, listedBytes, unlisted}
+use Rattle.split.specs.Split.{soundMessages}
+use Rattle.lister.specs.Listing.{bytesOf, linesOf, lastLine, listedBytes, unlisted}
 use Rattle.lister.specs.Pieces.{overBy, over, pieceText, ListsPiece}
 use Rattle.lister.specs.Scaffold.{Lists}
 use Rattle.lister.specs.declared.Listed.{Listed}
 
-module _ {s before mid rest : List ℕ} {offset : ℕ} {r : Listed} (l : Lists (messagesOf s) s offset before 0 mid r)
+module _ {s before mid rest : List ℕ} {offset : ℕ} {r : Listed} (l : Lists (soundMessages s) s offset before 0 mid r)
     (e : rest ≡ drop (r .used) s) (room : 4 * length s + lineRoom ≤ length before) where
   left : rest ≡ unlisted s
   unfolding unlisted listedBytes
@@ -28,8 +29,8 @@ module _ {s before mid rest : List ℕ} {offset : ℕ} {r : Listed} (l : Lists (
   unfolding pieceText listedBytes
   piece-over end h q =
       let o = over-left end h in
-      let t : lastLine (offset + r .used) rest ≡ lastLine (offset + bytesOf (messagesOf s)) (unlisted s) =
-      ap (λ (k : ℕ). lastLine (offset + k) rest) (l .used) ∙ ap (lastLine (offset + bytesOf (messagesOf s))) left in
+      let t : lastLine (offset + r .used) rest ≡ lastLine (offset + bytesOf (soundMessages s)) (unlisted s) =
+      ap (λ (k : ℕ). lastLine (offset + k) rest) (l .used) ∙ ap (lastLine (offset + bytesOf (soundMessages s))) left in
       record {
         used = l .used;
         within = l .within;
@@ -46,6 +47,6 @@ module _ {s before mid rest : List ℕ} {offset : ℕ} {r : Listed} (l : Lists (
         used = l .used;
         within = l .within;
         over = sym o;
-        puts = rw (o, append-nil (linesOf offset (messagesOf s))) (l .puts);
+        puts = rw (o, append-nil (linesOf offset (soundMessages s))) (l .puts);
         room = omega (arith, l .room, l .within, puts-length (l .puts));
       }

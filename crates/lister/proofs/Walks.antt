@@ -1,12 +1,12 @@
 -- The walk over the messages at the front of some bytes. Assumes nothing.
-use Prim.Native.Nat.{ℕ, zero, suc, _+_, _-_, _*_, _≤_}
+use Prim.Native.Nat.{ℕ, _+_, _-_, _*_, _≤_}
 use mathlib.Core.Path.{_≡_, refl, sym, ap, _∙_}
 use mathlib.Core.List.{List, [], _∷_, _++_, append-assoc, append-nil}
 use native.Mathlib.Omega.{arith}
 use native.Mathlib.Nat.{add-zero, add-assoc}
 use lib.ListN.{length, getD, take, drop, length-drop}
 use lib.Seq.{sets, length-take-le, drop-drop}
-use Rattle.frame.specs.Decide.{decide, taken}
+use Rattle.frame.specs.Decide.{decide}
 use Rattle.frame.specs.declared.Decision.{Decision}
 use Rattle.frame.specs.declared.Decision.the-variants.{Undecided, Faulty, Sound}
 use Rattle.frame.proofs.Sounds.{sound-at, type-take, count-take, size-take}
@@ -17,8 +17,10 @@ use Rattle.reader.specs.declared.Reading.the-variants.{Read}
 use Rattle.lines.specs.Text.{messageLine}
 use Rattle.lines.specs.Scaffold.{Puts, PutsLine}
 use Rattle.lines.proofs.Putting.{puts-none, puts-then}
-use Rattle.lister.specs.Listing.{soundFirst, messagesWithin, messagesOf, bytesOf, lineOf, linesOf}
-use Rattle.lister.specs.Scaffold.{firstOf, Lists}
+use Rattle.split.specs.Split.{soundMessages}
+use Rattle.split.proofs.Splits.{sound-none, sound-then}
+use Rattle.lister.specs.Listing.{bytesOf, lineOf, linesOf}
+use Rattle.lister.specs.Scaffold.{soundFirst, firstOf, Lists}
 use Rattle.lister.specs.declared.Listed.{Listed}
 use Rattle.lister.proofs.Readings.{read-sound, read-told, read-size}
 
@@ -29,43 +31,11 @@ Unsound s = (n : ℕ) → decide s ≡ Sound n → ⊥
 pub nothing-unsound : (s : List ℕ) → length s ≤ 0 → Unsound s
 nothing-unsound s h n e = let w = sound-at s n e in omega (arith, w .low, w .high)
 
-first-none : (d : Decision) (s : List ℕ) (others : List (List ℕ)) → ((n : ℕ) → d ≡ Sound n → ⊥) → soundFirst d s others ≡ []
+first-none : (d : Decision) (s : List ℕ) → ((n : ℕ) → d ≡ Sound n → ⊥) → soundFirst d s ≡ []
 unfolding soundFirst
-first-none Undecided s others u = refl
-first-none (Faulty f n) s others u = refl
-first-none (Sound n) s others u = absurd (u n refl)
-
-first-same : (d : Decision) (s : List ℕ) (x y : List (List ℕ)) → ((n : ℕ) → d ≡ Sound n → x ≡ y) → soundFirst d s x ≡ soundFirst d s y
-unfolding soundFirst
-first-same Undecided s x y h = refl
-first-same (Faulty f n) s x y h = refl
-first-same (Sound n) s x y h = ap (λ (r : List (List ℕ)). take n s ∷ r) (h n refl)
-
--- any number of turns that is enough gives the same
-enough : (j k : ℕ) (s : List ℕ) → length s ≤ j → length s ≤ k → messagesWithin j s ≡ messagesWithin k s
-unfolding messagesWithin taken
-enough zero zero s a b = refl
-enough zero (suc k) s a b = sym (first-none (decide s) s _ (nothing-unsound s a))
-enough (suc j) zero s a b = first-none (decide s) s _ (nothing-unsound s b)
-enough (suc j) (suc k) s a b =
-    first-same (decide s) s _ _
-    (λ n e.
-    let w = sound-at s n e in
-    let t = ap taken e in
-    let l = length-drop (taken (decide s)) s in
-    enough j k (drop (taken (decide s)) s) (omega (arith, w .low, w .high)) (omega (arith, w .low, w .high)))
-
-pub messages-none : (s : List ℕ) → Unsound s → messagesOf s ≡ []
-unfolding messagesOf messagesWithin
-messages-none [] u = refl
-messages-none (x ∷ s) u = first-none (decide (x ∷ s)) (x ∷ s) _ u
-
-pub messages-first : (s : List ℕ) (n : ℕ) → decide s ≡ Sound n → messagesOf s ≡ take n s ∷ messagesOf (drop n s)
-unfolding messagesOf messagesWithin soundFirst taken
-messages-first [] n e = absurd (nothing-unsound [] (omega arith) n e)
-messages-first (x ∷ s) n e =
-    let w = sound-at (x ∷ s) n e in
-    rw e (ap (λ (r : List (List ℕ)). take n (x ∷ s) ∷ r) (enough (length s) (length (drop n (x ∷ s))) (drop n (x ∷ s)) (omega (arith, w .low, w .high, length-drop n (x ∷ s))) (omega arith)))
+first-none Undecided s u = refl
+first-none (Faulty f n) s u = refl
+first-none (Sound n) s u = absurd (u n refl)
 
 pub bytes-append : (a b : List (List ℕ)) → bytesOf (a ++ b) ≡ bytesOf a + bytesOf b
 unfolding bytesOf
@@ -81,7 +51,7 @@ lines-append offset (m ∷ a) b =
 -- the front messages, `done`, are listed; those behind them are left
 pub record Walked (s : List ℕ) (offset : ℕ) (before : List ℕ) (used put : ℕ) (out : List ℕ) : Type 0 where
   pub done : List (List ℕ)
-  pub left : messagesOf s ≡ done ++ messagesOf (drop used s)
+  pub left : soundMessages s ≡ done ++ soundMessages (drop used s)
   pub bytes : used ≡ bytesOf done
   pub within : used ≤ length s
   pub puts : Puts (linesOf offset done) before 0 out put
@@ -93,7 +63,7 @@ walked-none s offset out =
     record { done = []; left = refl; bytes = refl; within = omega arith; puts = puts-none out 0; room = omega arith }
 
 -- what the first message is, by its bytes
-first-sound : (s : List ℕ) (d : Decision) → decide s ≡ d → (bytesOf (soundFirst d s []) ≡ 0 → ⊥) → (n : ℕ) × (decide s ≡ Sound n)
+first-sound : (s : List ℕ) (d : Decision) → decide s ≡ d → (bytesOf (soundFirst d s) ≡ 0 → ⊥) → (n : ℕ) × (decide s ≡ Sound n)
 unfolding soundFirst bytesOf
 first-sound s Undecided e h = absurd (h refl)
 first-sound s (Faulty f n) e h = absurd (h refl)
@@ -114,16 +84,16 @@ module _ {s before out out′ rest : List ℕ} {offset used put : ℕ} {r : List
       let p = first-sound rest (decide rest) refl (λ z. h (l .used ∙ z)) in
       let n = p .0 in
       let x = sound-at rest n (p .1) in
-      let f : firstOf rest ≡ take n rest ∷ [] = ap (λ (d : Decision). soundFirst d rest []) (p .1) in
+      let f : firstOf rest ≡ take n rest ∷ [] = ap (λ (d : Decision). soundFirst d rest) (p .1) in
       let b : r .used ≡ n = l .used ∙ ap bytesOf f ∙ add-zero (length (take n rest)) ∙ length-take-le n rest (x .high) in
       let behind : drop n rest ≡ drop (used + r .used) s = ap (drop n) e ∙ drop-drop n used s ∙ ap (λ (k : ℕ). drop (used + k) s) (sym b) in
-      let t : messagesOf (drop used s) ≡ firstOf rest ++ messagesOf (drop (used + r .used) s) =
-      ap messagesOf (sym e) ∙ messages-first rest n (p .1)
-      ∙ ap (λ (ms : List (List ℕ)). take n rest ∷ ms) (ap messagesOf behind)
-      ∙ ap (λ (ms : List (List ℕ)). ms ++ messagesOf (drop (used + r .used) s)) (sym f) in
+      let t : soundMessages (drop used s) ≡ firstOf rest ++ soundMessages (drop (used + r .used) s) =
+      ap soundMessages (sym e) ∙ sound-then rest n (p .1)
+      ∙ ap (λ (ms : List (List ℕ)). take n rest ∷ ms) (ap soundMessages behind)
+      ∙ ap (λ (ms : List (List ℕ)). ms ++ soundMessages (drop (used + r .used) s)) (sym f) in
       record {
         done = w .done ++ firstOf rest;
-        left = w .left ∙ ap (λ (ms : List (List ℕ)). w .done ++ ms) t ∙ sym (append-assoc (w .done) (firstOf rest) (messagesOf (drop (used + r .used) s)));
+        left = w .left ∙ ap (λ (ms : List (List ℕ)). w .done ++ ms) t ∙ sym (append-assoc (w .done) (firstOf rest) (soundMessages (drop (used + r .used) s)));
         bytes = omega (arith, bytes-append (w .done) (firstOf rest), w .bytes, l .used);
         within = omega (arith, l .within, ap length e, length-drop used s, w .within);
         puts = rw (lines-append offset (w .done) (firstOf rest)) (puts-then (w .puts) (rw (w .bytes) at (l .puts)));
@@ -132,9 +102,9 @@ module _ {s before out out′ rest : List ℕ} {offset used put : ℕ} {r : List
 
 -- nothing sound is left
 pub walked-all : {s before out : List ℕ} {offset used put : ℕ} → Walked s offset before used put out → Unsound (drop used s)
-    → Lists (messagesOf s) s offset before 0 out (record { used = used; put = put })
+    → Lists (soundMessages s) s offset before 0 out (record { used = used; put = put })
 walked-all {s} {before} {out} {offset} {used} {put} w u =
-    let e : messagesOf s ≡ w .done = w .left ∙ rw (messages-none (drop used s) u) (append-nil (w .done)) in
+    let e : soundMessages s ≡ w .done = w .left ∙ rw (sound-none (drop used s) u) (append-nil (w .done)) in
     record {
       used = w .bytes ∙ ap bytesOf (sym e);
       within = w .within;
@@ -145,18 +115,18 @@ walked-all {s} {before} {out} {offset} {used} {put} w u =
 -- the walk stops where the first message left is not sound
 pub walked-stop : {s before out out′ rest : List ℕ} {offset used put : ℕ} {r : Listed} → Walked s offset before used put out
     → rest ≡ drop used s → Lists (firstOf rest) rest (offset + used) out put out′ r → r .used ≡ 0
-    → Lists (messagesOf s) s offset before 0 out′ (record { used = used; put = put })
+    → Lists (soundMessages s) s offset before 0 out′ (record { used = used; put = put })
 unfolding linesOf firstOf
 walked-stop {s} {before} {out} {out′} {rest} {offset} {used} {put} {r} w e l z =
     let u = first-unsound rest (sym (l .used) ∙ z) in
-    let o : out′ ≡ out = l .puts .text ∙ ap (λ (ms : List (List ℕ)). sets out put (linesOf (offset + used) ms)) (first-none (decide rest) rest [] u) in
+    let o : out′ ≡ out = l .puts .text ∙ ap (λ (ms : List (List ℕ)). sets out put (linesOf (offset + used) ms)) (first-none (decide rest) rest u) in
     rw o (walked-all w (rw e at u))
 
 module _ (s : List ℕ) (offset : ℕ) (out : List ℕ) (at : ℕ) where
   pub first-not : Unsound s → Lists (firstOf s) s offset out at out (record { used = 0; put = at })
   unfolding firstOf bytesOf linesOf
   first-not u =
-      rw (first-none (decide s) s [] u)
+      rw (first-none (decide s) s u)
       (record { used = refl; within = omega arith; puts = puts-none out at; room = omega arith })
 
   -- a line was put for the message that the reader told

@@ -1,29 +1,15 @@
 -- R78, R79. The listing of some input.
-use Prim.Native.Nat.{ℕ, zero, suc, _+_}
+use Prim.Native.Nat.{ℕ, _+_}
 use mathlib.Core.List.{List, [], _∷_, _++_}
 use mathlib.Core.Bool.{cond}
-use lib.ListN.{length, take, drop}
+use lib.ListN.{length, drop}
 use lib.Dec.{eqb}
 use Rattle.frame.specs.Header.{pduSize, pduType, messageCount}
-use Rattle.frame.specs.Decide.{decide, taken}
+use Rattle.frame.specs.Decide.{decide}
 use Rattle.frame.specs.declared.Decision.{Decision}
 use Rattle.frame.specs.declared.Decision.the-variants.{Undecided, Faulty, Sound}
+use Rattle.split.specs.Split.{soundMessages}
 use Rattle.lines.specs.Text.{messageLine, stopLine, partLine, endLine}
-
--- R78. The message at the front of s where d, what s decides, is sound, and then the others.
-unfoldable pub soundFirst : Decision → List ℕ → List (List ℕ) → List (List ℕ)
-soundFirst Undecided s others = []
-soundFirst (Faulty f n) s others = []
-soundFirst (Sound n) s others = take n s ∷ others
-
--- R78. The sound messages at the front of s, one after another, at most k of them.
-unfoldable pub messagesWithin : ℕ → List ℕ → List (List ℕ)
-messagesWithin zero s = []
-messagesWithin (suc k) s = soundFirst (decide s) s (messagesWithin k (drop (taken (decide s)) s))
-
--- R78. All of them: a message has at least one byte.
-unfoldable pub messagesOf : List ℕ → List (List ℕ)
-messagesOf s = messagesWithin (length s) s
 
 -- R78. How many bytes some messages are.
 unfoldable pub bytesOf : List (List ℕ) → ℕ
@@ -52,7 +38,7 @@ lastLine at s = lastBy (decide s) at (length s)
 
 -- R79. How many bytes the sound messages at the front of s are.
 unfoldable pub listedBytes : List ℕ → ℕ
-listedBytes s = bytesOf (messagesOf s)
+listedBytes s = bytesOf (soundMessages s)
 
 -- R79. What stands behind them.
 unfoldable pub unlisted : List ℕ → List ℕ
@@ -60,7 +46,7 @@ unlisted s = drop (listedBytes s) s
 
 -- R78, R79. The listing of the bytes s, which stand at the offset at and end the input.
 unfoldable pub listingFrom : ℕ → List ℕ → List ℕ
-listingFrom at s = linesOf at (messagesOf s) ++ lastLine (at + listedBytes s) (unlisted s)
+listingFrom at s = linesOf at (soundMessages s) ++ lastLine (at + listedBytes s) (unlisted s)
 
 -- R78, R79. The listing of the whole input.
 unfoldable pub listing : List ℕ → List ℕ

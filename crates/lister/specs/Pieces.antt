@@ -11,7 +11,8 @@ use Rattle.frame.specs.declared.Decision.{Decision}
 use Rattle.frame.specs.declared.Decision.the-variants.{Undecided, Faulty, Sound}
 use Rattle.lines.specs.Scaffold.{Puts}
 use Rattle.lister.specs.declared.Piece.{Piece}
-use Rattle.lister.specs.Listing.{messagesOf, linesOf, lastLine, listedBytes, unlisted, listingFrom, listing}
+use Rattle.split.specs.Split.{soundMessages}
+use Rattle.lister.specs.Listing.{linesOf, lastLine, listedBytes, unlisted, listingFrom, listing}
 
 -- R79. The last line is due: the input ends, or a fault stops the listing.
 unfoldable pub overBy : Bool → Decision → Bool
@@ -25,7 +26,7 @@ over end s = overBy end (decide (unlisted s))
 
 -- R80. What is printed of the bytes s, which stand at the offset at; end says that the input ends with them.
 unfoldable pub pieceText : Bool → ℕ → List ℕ → List ℕ
-pieceText end at s = linesOf at (messagesOf s) ++ cond (over end s) (lastLine (at + listedBytes s) (unlisted s)) []
+pieceText end at s = linesOf at (soundMessages s) ++ cond (over end s) (lastLine (at + listedBytes s) (unlisted s)) []
 
 -- R80. The bytes s, which stand from the offset on, were listed.
 pub record ListsPiece (end : Bool) (offset : ℕ) (s before after : List ℕ) (r : Piece) : Type 0 where

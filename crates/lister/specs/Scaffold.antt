@@ -1,16 +1,24 @@
 -- For the contracts of inner functions and for proofs: no rule is here.
 use Prim.Native.Nat.{ℕ, _+_, _*_, _≤_}
 use mathlib.Core.Path.{_≡_}
-use mathlib.Core.List.{List, []}
-use lib.ListN.{length}
+use mathlib.Core.List.{List, [], _∷_}
+use lib.ListN.{length, take}
 use Rattle.frame.specs.Decide.{decide}
+use Rattle.frame.specs.declared.Decision.{Decision}
+use Rattle.frame.specs.declared.Decision.the-variants.{Undecided, Faulty, Sound}
 use Rattle.lines.specs.Scaffold.{Puts}
 use Rattle.lister.specs.declared.Listed.{Listed}
-use Rattle.lister.specs.Listing.{soundFirst, bytesOf, linesOf}
+use Rattle.lister.specs.Listing.{bytesOf, linesOf}
+
+-- The message at the front of s where d, what s decides, is sound.
+unfoldable pub soundFirst : Decision → List ℕ → List (List ℕ)
+soundFirst Undecided s = []
+soundFirst (Faulty f n) s = []
+soundFirst (Sound n) s = take n s ∷ []
 
 -- R78. The message at the front of s, if it is sound.
 unfoldable pub firstOf : List ℕ → List (List ℕ)
-firstOf s = soundFirst (decide s) s []
+firstOf s = soundFirst (decide s) s
 
 -- ms, messages at the front of s, which stands from the offset on, were listed.
 pub record Lists (ms : List (List ℕ)) (s : List ℕ) (offset : ℕ) (before : List ℕ) (at : ℕ) (after : List ℕ) (r : Listed) : Type 0 where

@@ -8,7 +8,8 @@ ghost use lib.ListN.{length, take, drop, getD};
 ghost use Rattle.frame.specs.Decide.{decide};
 ghost use Rattle.reader.specs.Numbers.{messageNumbers};
 ghost use Rattle.lines.specs.Scaffold.{lineRoom, PutsLine};
-ghost use Rattle.lister.specs.Listing.{messagesOf, lastLine};
+ghost use Rattle.split.specs.Split.{soundMessages};
+ghost use Rattle.lister.specs.Listing.{lastLine};
 ghost use Rattle.lister.specs.Pieces.{overBy, ListsPiece, Pieces};
 ghost use Rattle.lister.specs.Scaffold.{firstOf, Lists};
 ghost use Rattle.lister.specs.Sample.{SampleListed};
@@ -69,7 +70,7 @@ fn list_first(s: &[u8], offset: u64, out: &mut [u8], at: usize) -> Listed
 // Lists the sound messages at the front of s.
 fn list_messages(s: &[u8], offset: u64, out: &mut [u8]) -> Listed
     requires { ⌜ (4 * length (now s) + lineRoom ≤ length (now out)) × (offset + length (now s) < 2 ^ 64) ⌝ }
-    ensures { λ r. ⌜ Lists (messagesOf (now (s .entry))) (now (s .entry)) offset (now (out .entry)) 0 (now (out .exit)) r ⌝ }
+    ensures { λ r. ⌜ Lists (soundMessages (now (s .entry))) (now (s .entry)) offset (now (out .entry)) 0 (now (out .exit)) r ⌝ }
 {
     let mut used = 0;
     let mut put = 0;

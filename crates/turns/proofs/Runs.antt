@@ -11,9 +11,11 @@ use lib.Seq.{take-add, length-take-le, drop-drop}
 use borrow.Author.Tests.{eqb-true}
 use Rattle.laws.proofs.Parts.{nil-of}
 use Rattle.laws.proofs.Tables.{or-neither}
-use Rattle.lister.specs.Listing.{messagesOf, bytesOf, linesOf, listedBytes, unlisted, listingFrom, listing}
+use Rattle.split.specs.Split.{soundMessages}
+use Rattle.split.proofs.Splits.{sound-none}
+use Rattle.lister.specs.Listing.{bytesOf, linesOf, listedBytes, unlisted, listingFrom, listing}
 use Rattle.lister.specs.Pieces.{over, pieceText, printed}
-use Rattle.lister.proofs.Walks.{lines-append, messages-none, nothing-unsound}
+use Rattle.lister.proofs.Walks.{lines-append, nothing-unsound}
 use Rattle.lister.proofs.Cuts.{end-over, listed-within, listed-more, unlisted-more, messages-more, listing-more, pieces-laws}
 use Rattle.turns.specs.Turns.{Turned}
 use Rattle.turns.specs.Ends.{ListingRuns, ListingEnds, TapeListed}
@@ -31,9 +33,9 @@ length-take-most n l = omega (arith, length-take n l)
 
 -- nothing was read
 pub running-none : (taped : Bool) (tape text input : List ℕ) → ListingRuns taped tape text input 0 0 0
-unfolding listedBytes unlisted messagesOf bytesOf linesOf
+unfolding listedBytes unlisted bytesOf linesOf
 running-none taped tape text input =
-    let n = messages-none [] (nothing-unsound [] (omega arith)) in
+    let n = sound-none [] (nothing-unsound [] (omega arith)) in
     record {
       seen = [];
       said = [];
@@ -67,9 +69,9 @@ unfolding unlisted
 listed-left x = omega (arith, listed-within x, length-drop (listedBytes x) x)
 
 -- the text of a piece behind which the listing goes on
-text-on : (e : Bool) (at : ℕ) (x : List ℕ) → over e x ≡ false → pieceText e at x ≡ linesOf at (messagesOf x)
+text-on : (e : Bool) (at : ℕ) (x : List ℕ) → over e x ≡ false → pieceText e at x ≡ linesOf at (soundMessages x)
 unfolding pieceText
-text-on e at x o = rw (o, append-nil (linesOf at (messagesOf x)))
+text-on e at x o = rw (o, append-nil (linesOf at (soundMessages x)))
 
 module _ {taped : Bool} {tape text input : List ℕ} {offset held handed : ℕ} (g : ListingRuns taped tape text input offset held handed) where
   -- whatever follows what was read
@@ -144,11 +146,11 @@ module _ {taped : Bool} {tape text input : List ℕ} {offset held handed : ℕ} 
         let n : r .held ≡ length (unlisted (a ++ t .piece)) = q .count ∙ ap length l in
         record {
           seen = a ++ t .piece;
-          said = g .said ++ linesOf offset (messagesOf b);
+          said = g .said ++ linesOf offset (soundMessages b);
           count = rw (e, n) (listed-left (a ++ t .piece));
           listed = e;
           left = q .kept ∙ l;
-          lines = rw (messages-more (length a) a (t .piece) (omega arith), lines-append 0 (messagesOf a) (messagesOf b), g .lines, g .listed, zero-add);
+          lines = rw (messages-more (length a) a (t .piece) (omega arith), lines-append 0 (soundMessages a) (soundMessages b), g .lines, g .listed, zero-add);
           read = seen-read;
           kept = λ w. t .keeps w .all (neither .1) ∙ rw (g .kept w, text-on (eqb (length (t .piece)) 0) offset (take held input ++ t .piece) (neither .0), sb);
         }

@@ -4,7 +4,8 @@ use mathlib.Core.Path.{_≡_}
 use mathlib.Core.List.{List, [], _++_}
 use mathlib.Core.Bool.{Bool, true, false, not, _&&_}
 use lib.ListN.{length, take}
-use Rattle.lister.specs.Listing.{messagesOf, linesOf, listedBytes, unlisted, listing}
+use Rattle.split.specs.Split.{soundMessages}
+use Rattle.lister.specs.Listing.{linesOf, listedBytes, unlisted, listing}
 use Rattle.turns.specs.declared.State.{State}
 use Rattle.turns.specs.Scaffold.{greatestOffset}
 
@@ -16,7 +17,7 @@ pub record ListingRuns (taped : Bool) (tape text input : List ℕ) (offset held 
   pub count : offset + held ≡ length seen
   pub listed : offset ≡ listedBytes seen
   pub left : take held input ≡ unlisted seen
-  pub lines : said ≡ linesOf 0 (messagesOf seen)
+  pub lines : said ≡ linesOf 0 (soundMessages seen)
   pub read : taped ≡ true → seen ≡ take (length seen) tape
   pub kept : taped ≡ true → take handed text ≡ said
 

@@ -5,12 +5,13 @@ use Rattle.frame.specs.Entry.{leastEntry, countPlace, leastCount, countFits, en
 use Rattle.frame.specs.Decide.{keepAliveFill, dataSound, decideData, decideHeader, decide, taken}
 use Rattle.laws.specs.Decimal.{decimalWithin, decimalOf}
 use Rattle.lines.specs.Text.{numberText, messageLine, stopLine, partLine, endLine}
-use Rattle.lister.specs.Listing.{soundFirst, messagesWithin, messagesOf, bytesOf, lineOf, linesOf, lastBy, lastLine, listedBytes, unlisted, listingFrom, listing}
+use Rattle.split.specs.Split.{splitBy, splitWithin, splitOf, decidesSound, soundAmong, soundMessages}
+use Rattle.lister.specs.Listing.{bytesOf, lineOf, linesOf, lastBy, lastLine, listedBytes, unlisted, listingFrom, listing}
 use Rattle.lister.proofs.sample_listed.Statement.{statement}
 use Rattle.lister.proofs.sample_listed.Tie as tie
 
 returns : tie.Need-returns
-unfolding listing listingFrom lastLine lastBy unlisted listedBytes linesOf lineOf bytesOf messagesOf messagesWithin soundFirst messageLine stopLine partLine endLine numberText decimalOf decimalWithin decide taken decideHeader decideData dataSound keepAliveFill headerFault fieldsFault countFault entrySize entryFits entriesFill countFits leastEntry countPlace leastCount be16At be32At
+unfolding listing listingFrom lastLine lastBy unlisted listedBytes linesOf lineOf bytesOf soundMessages soundAmong splitOf splitWithin splitBy decidesSound messageLine stopLine partLine endLine numberText decimalOf decimalWithin decide taken decideHeader decideData dataSound keepAliveFill headerFault fieldsFault countFault entrySize entryFits entriesFill countFits leastEntry countPlace leastCount be16At be32At
 returns c = refl
 
 pub sample-listed-spec : {M : Type 1} → statement M
