@@ -3,4 +3,5 @@ pub mod Outcome
 pub mod Calls
 pub mod Deliver
 pub mod Take
+pub mod Promises
 pub mod Tell

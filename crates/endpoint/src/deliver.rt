@@ -10,7 +10,8 @@ ghost use Rattle.area.specs.Scaffold.{Lying};
 ghost use Rattle.replies.specs.Bytes.{leastOutput};
 ghost use Rattle.delivery.specs.Intake.{takenIn};
 ghost use Rattle.endpoint.specs.Outcome.{outcome};
-ghost use Rattle.endpoint.specs.Deliver.{heldAt, withIntake, deliverCall};
+ghost use Rattle.endpoint.specs.Deliver.{heldAt, withIntake};
+ghost use Rattle.endpoint.specs.Promises.{DeliverGives};
 
 impl Record {
     // A piece of connection n, which is open.
@@ -36,8 +37,8 @@ impl Record {
 
     // R28. A piece of connection n's bytes: taken as far as the first byte that decides.
     pub fn deliver(self, area: &mut [u8], n: u8, piece: &[u8], output: &mut [u8]) -> Delivered
-        ensures { λ r. ⌜ outcome (deliveryNumbers (r .answer)) (r .state) (now (area .exit)) (now (output .exit))
-            ≡ deliverCall self (now (area .entry)) n (now (piece .entry)) (now (output .entry)) ⌝ }
+        ensures { λ r. ⌜ DeliverGives self (now (area .entry)) n (now (piece .entry)) (now (output .entry)) r
+            (now (area .exit)) (now (output .exit)) ⌝ }
     {
         if !self.obeys() {
             return Delivered {
@@ -54,7 +55,8 @@ impl Record {
         }
         let device = self.device;
         let connections = device.connections;
-        if !connection::live_at(connections, n) {
+        let open = connection::live_at(connections, n);
+        if !open {
             return Delivered {
                 state: self,
                 answer: Delivery::NoConnection,

@@ -13,10 +13,11 @@ ghost use lib.ListN.{length};
 ghost use Rattle.area.specs.Area.{areaBytes};
 ghost use Rattle.device.specs.Time.{tickOf};
 ghost use Rattle.device.specs.State.{livesIn};
-ghost use Rattle.endpoint.specs.State.{freshState, recordObeys, closedState};
-ghost use Rattle.answers.specs.Numbers.{clearingNumbers, openingNumbers, closingNumbers, tickingNumbers};
+ghost use Rattle.endpoint.specs.State.{closedState};
+ghost use Rattle.answers.specs.Numbers.{tickingNumbers};
 ghost use Rattle.endpoint.specs.Outcome.{outcome};
-ghost use Rattle.endpoint.specs.Calls.{clearAnswer, clearedArea, openCall, closeCall, tickedBy, tickCall};
+ghost use Rattle.endpoint.specs.Calls.{tickedBy};
+ghost use Rattle.endpoint.specs.Promises.{ClearGives, FreshGives, ObeysGives, OpenGives, CloseGives, TickGives};
 ghost use Rattle.endpoint.specs.Tell.{ResultsTell};
 
 pub mod deliver;
@@ -59,7 +60,7 @@ pub struct Taken {
 
 // An area of zeros, for a fresh record.
 pub fn clear_area(area: &mut [u8]) -> Clearing
-    ensures { λ r. ⌜ (clearingNumbers r ≡ clearAnswer (now (area .entry))) × (now (area .exit) ≡ clearedArea (now (area .entry))) ⌝ }
+    ensures { λ r. ⌜ ClearGives (now (area .entry)) r (now (area .exit)) ⌝ }
 {
     if area.len() != area::AREA {
         return Clearing::BadArea;
@@ -85,7 +86,7 @@ pub(crate) fn lives(device: Device) -> [bool; 8]
 
 impl Record {
     pub fn fresh(reading: u32) -> Record
-        ensures { λ r. ⌜ r ≡ freshState reading ⌝ }
+        ensures { λ r. ⌜ FreshGives reading r ⌝ }
     {
         let device = Device::fresh(reading);
         let held = [0u16; 8];
@@ -94,7 +95,7 @@ impl Record {
 
     // The record rules hold.
     pub fn obeys(self) -> bool
-        ensures { λ r. ⌜ r ≡ recordObeys self ⌝ }
+        ensures { λ r. ⌜ ObeysGives self r ⌝ }
     {
         let device = self.device;
         let held = self.held;
@@ -105,7 +106,7 @@ impl Record {
 
     // A connection is opened.
     pub fn open(mut self) -> Opened
-        ensures { λ r. ⌜ outcome (openingNumbers (r .answer)) (r .state) [] [] ≡ openCall self ⌝ }
+        ensures { λ r. ⌜ OpenGives self r ⌝ }
     {
         if !self.obeys() {
             return Opened {
@@ -148,7 +149,7 @@ impl Record {
 
     // The host's close.
     pub fn close(mut self, area: &mut [u8], n: u8) -> Closed
-        ensures { λ r. ⌜ outcome (closingNumbers (r .answer)) (r .state) (now (area .exit)) [] ≡ closeCall self (now (area .entry)) n ⌝ }
+        ensures { λ r. ⌜ CloseGives self (now (area .entry)) n r (now (area .exit)) ⌝ }
     {
         if !self.obeys() {
             return Closed {
@@ -157,15 +158,17 @@ impl Record {
             };
         }
         let held = self.held;
-        if !area::area_sound(&area[0..], held) {
+        let sound = area::area_sound(&area[0..], held);
+        let device = self.device;
+        let connections = device.connections;
+        let open = connection::live_at(connections, n);
+        if !sound {
             return Closed {
                 state: self,
                 answer: Closing::BadArea,
             };
         }
-        let device = self.device;
-        let connections = device.connections;
-        if !connection::live_at(connections, n) {
+        if !open {
             return Closed {
                 state: self,
                 answer: Closing::NoConnection,
@@ -215,8 +218,7 @@ impl Record {
 
     // Time passes, to a reading of the host's counter.
     pub fn tick(mut self, area: &mut [u8], reading: u32) -> Ticked
-        ensures { λ r. ⌜ outcome (tickingNumbers (r .answer)) (r .state) (now (area .exit)) []
-            ≡ tickCall self (now (area .entry)) reading ⌝ }
+        ensures { λ r. ⌜ TickGives self (now (area .entry)) reading r (now (area .exit)) ⌝ }
     {
         if !self.obeys() {
             return Ticked {
@@ -235,7 +237,7 @@ impl Record {
     }
 }
 
-// Two results of a call that its outcome allows are equal.
+// Two results of a call that its promise allows are equal.
 pub fn results_tell()
     ensures { λ _. ⌜ ResultsTell ⌝ }
 {}

@@ -2,18 +2,15 @@
 use crate::Record;
 use crate::Taken;
 use answers::Taking;
-ghost use mathlib.Core.Path.{_≡_};
-ghost use mathlib.Core.List.{[]};
-ghost use Rattle.answers.specs.Numbers.{takingNumbers};
-ghost use Rattle.endpoint.specs.Outcome.{outcome};
-ghost use Rattle.endpoint.specs.Take.{takeCall};
+ghost use Rattle.endpoint.specs.Promises.{TakeGives};
 
 impl Record {
     // One message, and its connection.
     pub fn take(mut self, output: &mut [u8]) -> Taken
-        ensures { λ r. ⌜ outcome (takingNumbers (r .answer)) (r .state) [] (now (output .exit)) ≡ takeCall self (now (output .entry)) ⌝ }
+        ensures { λ r. ⌜ TakeGives self (now (output .entry)) r (now (output .exit)) ⌝ }
     {
-        if !self.obeys() {
+        let sound = self.obeys();
+        if !sound {
             return Taken {
                 state: self,
                 answer: Taking::BadRecord,

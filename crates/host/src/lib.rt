@@ -5,11 +5,9 @@ ghost use mathlib.Core.Path.{_≡_};
 ghost use Prim.Native.Nat.{_<_};
 ghost use Rattle.numbers.specs.Kind.{kindClosed};
 ghost use Rattle.endpoint.specs.State.{freshState};
-ghost use Rattle.endpoint.specs.Calls.{clearAnswer, clearedArea, openCall, closeCall, tickCall};
-ghost use Rattle.endpoint.specs.Deliver.{deliverCall};
-ghost use Rattle.endpoint.specs.Take.{takeCall};
-ghost use Rattle.reset.specs.Datagram.{datagramCall};
-ghost use Rattle.host.specs.Answers.{clearedOf, openedOf, closedOf, tickedOf, faultIn, lengthIn, deliveredOf, takenOf, resetOf};
+ghost use Rattle.host.specs.Answers.{faultIn, lengthIn};
+ghost use Rattle.host.specs.Promises.{ClearHands, OpenHands, CloseHands, TickHands, DeliverHands, TakeHands, DatagramHands};
+ghost use Rattle.host.specs.Promises.{HandedTell};
 
 pub mod messages;
 
@@ -97,7 +95,7 @@ pub extern "C" fn melorwyth_fresh(reading: u32) -> Record
 
 #[no_mangle]
 pub extern "C" fn melorwyth_clear(area: &mut [u8]) -> Cleared
-    ensures { λ r. ⌜ (r ≡ clearedOf (clearAnswer (now (area .entry)))) × (now (area .exit) ≡ clearedArea (now (area .entry))) ⌝ }
+    ensures { λ r. ⌜ ClearHands (now (area .entry)) r (now (area .exit)) ⌝ }
 {
     let answer = endpoint::clear_area(area);
     let told = answer.numbers();
@@ -108,7 +106,7 @@ pub extern "C" fn melorwyth_clear(area: &mut [u8]) -> Cleared
 
 #[no_mangle]
 pub extern "C" fn melorwyth_open(state: Record) -> Opened
-    ensures { λ r. ⌜ r ≡ openedOf (openCall state) ⌝ }
+    ensures { λ r. ⌜ OpenHands state r ⌝ }
 {
     let done = state.open();
     let next = done.state;
@@ -123,8 +121,7 @@ pub extern "C" fn melorwyth_open(state: Record) -> Opened
 
 #[no_mangle]
 pub extern "C" fn melorwyth_close(state: Record, area: &mut [u8], n: u8) -> Closed
-    ensures { λ r. ⌜ (r ≡ closedOf (closeCall state (now (area .entry)) n))
-        × (now (area .exit) ≡ closeCall state (now (area .entry)) n .area) ⌝ }
+    ensures { λ r. ⌜ CloseHands state (now (area .entry)) n r (now (area .exit)) ⌝ }
 {
     let done = state.close(area, n);
     let next = done.state;
@@ -138,8 +135,7 @@ pub extern "C" fn melorwyth_close(state: Record, area: &mut [u8], n: u8) -> Clos
 
 #[no_mangle]
 pub extern "C" fn melorwyth_tick(state: Record, area: &mut [u8], reading: u32) -> Ticked
-    ensures { λ r. ⌜ (r ≡ tickedOf (tickCall state (now (area .entry)) reading))
-        × (now (area .exit) ≡ tickCall state (now (area .entry)) reading .area) ⌝ }
+    ensures { λ r. ⌜ TickHands state (now (area .entry)) reading r (now (area .exit)) ⌝ }
 {
     let done = state.tick(area, reading);
     let next = done.state;
@@ -160,9 +156,8 @@ pub extern "C" fn melorwyth_deliver(
     piece: &[u8],
     output: &mut [u8],
 ) -> Delivered
-    ensures { λ r. ⌜ (r ≡ deliveredOf (deliverCall state (now (area .entry)) n (now (piece .entry)) (now (output .entry))))
-        × (now (area .exit) ≡ deliverCall state (now (area .entry)) n (now (piece .entry)) (now (output .entry)) .area)
-        × (now (output .exit) ≡ deliverCall state (now (area .entry)) n (now (piece .entry)) (now (output .entry)) .output) ⌝ }
+    ensures { λ r. ⌜ DeliverHands state (now (area .entry)) n (now (piece .entry)) (now (output .entry)) r
+        (now (area .exit)) (now (output .exit)) ⌝ }
 {
     let done = state.deliver(area, n, piece, output);
     let next = done.state;
@@ -182,8 +177,7 @@ pub extern "C" fn melorwyth_deliver(
 
 #[no_mangle]
 pub extern "C" fn melorwyth_take(state: Record, output: &mut [u8]) -> Taken
-    ensures { λ r. ⌜ (r ≡ takenOf (takeCall state (now (output .entry))))
-        × (now (output .exit) ≡ takeCall state (now (output .entry)) .output) ⌝ }
+    ensures { λ r. ⌜ TakeHands state (now (output .entry)) r (now (output .exit)) ⌝ }
 {
     let done = state.take(output);
     let next = done.state;
@@ -201,8 +195,7 @@ pub extern "C" fn melorwyth_take(state: Record, output: &mut [u8]) -> Taken
 
 #[no_mangle]
 pub extern "C" fn melorwyth_datagram(state: Record, area: &mut [u8], datagram: &[u8]) -> Reset
-    ensures { λ r. ⌜ (r ≡ resetOf (datagramCall state (now (area .entry)) (now (datagram .entry))))
-        × (now (area .exit) ≡ datagramCall state (now (area .entry)) (now (datagram .entry)) .area) ⌝ }
+    ensures { λ r. ⌜ DatagramHands state (now (area .entry)) (now (datagram .entry)) r (now (area .exit)) ⌝ }
 {
     let done = reset::datagram(state, area, datagram);
     let next = done.state;
@@ -214,3 +207,8 @@ pub extern "C" fn melorwyth_datagram(state: Record, area: &mut [u8], datagram: &
         reset: told.first,
     }
 }
+
+// Two results of a function that its promise allows are equal.
+pub fn handed_tell()
+    ensures { λ _. ⌜ HandedTell ⌝ }
+{}

@@ -9,8 +9,8 @@ ghost use Rattle.reader.specs.Numbers.{messageNumbers, readingNumbers, commandN
 ghost use Rattle.reader.specs.Read.{readOf};
 ghost use Rattle.reader.specs.Entry.{entryOf};
 ghost use Rattle.writer.specs.Numbers.{writtenNumbers};
-ghost use Rattle.writer.specs.Write.{startOf, appendOf, keepAliveOf};
 ghost use Rattle.host.specs.Messages.{readingWith, readingOf, plainWith, entryFrom, partFrom, writtenWith, writtenOf};
+ghost use Rattle.host.specs.Promises.{StartHands, AppendHands, KeepAliveHands};
 
 #[repr(C)]
 pub struct Reading {
@@ -246,24 +246,21 @@ fn of_written(answer: writer::Written) -> Written
 
 #[no_mangle]
 pub extern "C" fn melorwyth_start(buffer: &mut [u8], kind: u8, entry: &[u8]) -> Written
-    ensures { λ r. ⌜ (r ≡ writtenOf (startOf (now (buffer .entry)) kind (now (entry .entry)) .answer))
-        × (now (buffer .exit) ≡ startOf (now (buffer .entry)) kind (now (entry .entry)) .buffer) ⌝ }
+    ensures { λ r. ⌜ StartHands (now (buffer .entry)) kind (now (entry .entry)) r (now (buffer .exit)) ⌝ }
 {
     of_written(writer::start(buffer, kind, entry))
 }
 
 #[no_mangle]
 pub extern "C" fn melorwyth_append(buffer: &mut [u8], kind: u8, entry: &[u8]) -> Written
-    ensures { λ r. ⌜ (r ≡ writtenOf (appendOf (now (buffer .entry)) kind (now (entry .entry)) .answer))
-        × (now (buffer .exit) ≡ appendOf (now (buffer .entry)) kind (now (entry .entry)) .buffer) ⌝ }
+    ensures { λ r. ⌜ AppendHands (now (buffer .entry)) kind (now (entry .entry)) r (now (buffer .exit)) ⌝ }
 {
     of_written(writer::append(buffer, kind, entry))
 }
 
 #[no_mangle]
 pub extern "C" fn melorwyth_keep_alive(buffer: &mut [u8], form: u8, value: u32) -> Written
-    ensures { λ r. ⌜ (r ≡ writtenOf (keepAliveOf (now (buffer .entry)) form value .answer))
-        × (now (buffer .exit) ≡ keepAliveOf (now (buffer .entry)) form value .buffer) ⌝ }
+    ensures { λ r. ⌜ KeepAliveHands (now (buffer .entry)) form value r (now (buffer .exit)) ⌝ }
 {
     of_written(writer::keep_alive(buffer, form, value))
 }

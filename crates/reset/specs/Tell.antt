@@ -1,8 +1,11 @@
--- R68. The numbers of a datagram's answer tell it from every other, and two results allowed are equal.
-use Rattle.answers.specs.Numbers.{resettingNumbers}
-use Rattle.answers.specs.declared.Resetting.{Resetting}
-use Rattle.endpoint.specs.Tell.{SameResult}
+-- R68. Two results that a datagram's promise allows are equal.
+use mathlib.Core.List.{List}
+use Prim.Native.Nat.{ℕ}
+use Rattle.endpoint.specs.Tell.{AllowsOneLent}
+use Rattle.endpoint.specs.declared.Record.{Record}
+use Rattle.reset.specs.Datagram.{DatagramGives}
+use Rattle.reset.specs.declared.Reset.{Reset}
 
--- Theorem. No two answers of a datagram have the same numbers, and the call has one result.
+-- Theorem. The datagram's promise, as its contract states it, allows one result.
 pub record ResettingsTell : Type 0 where
-  pub one : SameResult Resetting resettingNumbers
+  pub one : (state : Record) (area datagram : List ℕ) → AllowsOneLent Reset (DatagramGives state area datagram)

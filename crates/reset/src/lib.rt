@@ -1,11 +1,7 @@
 // A datagram that came on the reset mechanism's port: the right one starts the device anew.
 use answers::Resetting;
 use endpoint::Record;
-ghost use mathlib.Core.Path.{_≡_};
-ghost use mathlib.Core.List.{[]};
-ghost use Rattle.endpoint.specs.Outcome.{outcome};
-ghost use Rattle.answers.specs.Numbers.{resettingNumbers};
-ghost use Rattle.reset.specs.Datagram.{datagramCall};
+ghost use Rattle.reset.specs.Datagram.{DatagramGives};
 ghost use Rattle.reset.specs.Tell.{ResettingsTell};
 
 pub struct Reset {
@@ -15,8 +11,7 @@ pub struct Reset {
 
 // The right one starts the device anew, at its last reading; any other changes nothing.
 pub fn datagram(state: Record, area: &mut [u8], datagram: &[u8]) -> Reset
-    ensures { λ r. ⌜ outcome (resettingNumbers (r .answer)) (r .state) (now (area .exit)) []
-        ≡ datagramCall state (now (area .entry)) (now (datagram .entry)) ⌝ }
+    ensures { λ r. ⌜ DatagramGives state (now (area .entry)) (now (datagram .entry)) r (now (area .exit)) ⌝ }
 {
     if !state.obeys() {
         return Reset {
@@ -47,7 +42,7 @@ pub fn datagram(state: Record, area: &mut [u8], datagram: &[u8]) -> Reset
     }
 }
 
-// Two results of a datagram that its outcome allows are equal.
+// Two results of a datagram that its promise allows are equal.
 pub fn resettings_tell()
     ensures { λ _. ⌜ ResettingsTell ⌝ }
 {}

@@ -7,7 +7,8 @@ ghost use lib.ListN.{length};
 ghost use Rattle.stream.specs.Machine.{deliver, ask};
 ghost use Rattle.promise.specs.Rulebook.{opening, closing, ticking, taking, datagram};
 ghost use Rattle.script.specs.Chain.{ScriptsRun};
-ghost use Rattle.script.specs.Script.{stage, stageOf, sentBy, callBy, callIn, firstSize, scriptOf};
+ghost use Rattle.script.specs.Script.{stage, stageOf, sentBy, callBy, callIn, firstSize};
+ghost use Rattle.script.specs.Tell.{RunGives, RunsTell};
 
 // A call starts with six bytes: its kind, a connection's number, and a number of 32 bits.
 pub const HEAD: usize = 6;
@@ -169,8 +170,8 @@ fn first(state: Record, area: &mut [u8], script: &[u8], output: &mut [u8]) -> Pl
 
 // Makes a script's calls by the code of the endpoint, each state passed on as handed back.
 pub fn run(state: Record, area: &mut [u8], script: &[u8], output: &mut [u8]) -> Played
-    ensures { λ r. ⌜ stage (r .state) (now (area .exit)) (now (output .exit)) (r .answer)
-        ≡ scriptOf state (now (area .entry)) (now (script .entry)) (now (output .entry)) ⌝ }
+    ensures { λ r. ⌜ RunGives state (now (area .entry)) (now (script .entry)) (now (output .entry)) r
+        (now (area .exit)) (now (output .exit)) ⌝ }
 {
     let answer = Numbers {
         number: numbers::NOT_REFUSED,
@@ -187,6 +188,11 @@ pub fn run(state: Record, area: &mut [u8], script: &[u8], output: &mut [u8]) -> 
     }
     last
 }
+
+// Two results of run that its promise allows are equal.
+pub fn runs_tell()
+    ensures { λ _. ⌜ RunsTell ⌝ }
+{}
 
 // R81, R82. What a script's calls leave is what the rules give over whole messages.
 pub fn scripts_run()

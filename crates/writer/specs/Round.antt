@@ -64,15 +64,15 @@ pub record ReadAfterWrite : Type 0 where
       ≡ notRefused ∷ 14 ∷ keepAlive ∷ 1 ∷ millisecondsForm ∷ greatestMilliseconds ∷ [])
 
 -- R68. A promise over an answer and the buffer after it allows one of each.
-abbrev pub AllowsOne : (Written → List ℕ → Type 0) → Type 0
-AllowsOne promise = (a b : Written) (s t : List ℕ) → promise a s → promise b t → (a ≡ b) × (s ≡ t)
+abbrev pub AllowsOneWriting : (Written → List ℕ → Type 0) → Type 0
+AllowsOneWriting promise = (a b : Written) (s t : List ℕ) → promise a s → promise b t → (a ≡ b) × (s ≡ t)
 
 -- Theorem. Each call's promise allows one answer and one buffer, to the last byte.
 pub record OneResult : Type 0 where
   pub numbers : (a b : Written) → writtenNumbers a ≡ writtenNumbers b → a ≡ b
-  pub start : (buf : List ℕ) (kind : ℕ) (e : List ℕ) → AllowsOne (Starts buf kind e)
-  pub append : (buf : List ℕ) (kind : ℕ) (e : List ℕ) → AllowsOne (Appends buf kind e)
-  pub beat : (buf : List ℕ) (form value : ℕ) → AllowsOne (WritesKeepAlive buf form value)
+  pub start : (buf : List ℕ) (kind : ℕ) (e : List ℕ) → AllowsOneWriting (Starts buf kind e)
+  pub append : (buf : List ℕ) (kind : ℕ) (e : List ℕ) → AllowsOneWriting (Appends buf kind e)
+  pub beat : (buf : List ℕ) (form value : ℕ) → AllowsOneWriting (WritesKeepAlive buf form value)
   pub runs : (buf : List ℕ) (kind : ℕ) (es : List (List ℕ)) (m n : ℕ) (s t : List ℕ) → Made buf kind es m s → Made buf kind es n t
       → (m ≡ n) × (s ≡ t)
   -- 2,049 bytes always decide: append refuses by 4 only where the buffer is under 2,049

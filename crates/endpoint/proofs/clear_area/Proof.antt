@@ -1,4 +1,5 @@
 use denote.Ref.{now}
+use mathlib.Core.Path.{refl}
 use native.Mathlib.Omega.{arith}
 use Rattle.endpoint.proofs.States.{clear-done}
 use Rattle.laws.proofs.Conds.{tests}
@@ -20,7 +21,8 @@ same-length c = search needs
 returns-2 : tie.Need-returns-2
 returns-2 c =
     let a = now (c .before .before .before .before .before .before .args .area) in
-    clear-done a (c .before .before .clear .last .0) (omega arith) (c .before .before .clear .ensures)
+    let e = clear-done a (c .before .before .clear .last .0) (omega arith) (c .before .before .clear .ensures) in
+    (e .0, rw (← e .1) refl)
 
 pub clear-area-spec : {M : Type 1} → statement M
 clear-area-spec = tie.close (tie.spec returns clear-requires same-length returns-2)

@@ -1,3 +1,4 @@
+use mathlib.Core.Path.{refl}
 use native.Mathlib.Omega.{arith}
 use denote.Ref.{now}
 use Rattle.laws.proofs.Parts.{rest}
@@ -12,7 +13,8 @@ obeys-requires c κs = search needs
 returns : tie.Need-returns
 returns c =
     let a = c .before .before .before .before .args in
-    datagram-bad (a .state) _ (c .before .obeys .ensures) (c .if1 .taken) (now (a .area)) (now (a .datagram))
+    let e = datagram-bad (a .state) _ (c .before .obeys .ensures) (c .if1 .taken) (now (a .area)) (now (a .datagram)) in
+    rw (← e) refl
 
 sub-area-sound : tie.Need-sub-area-sound
 sub-area-sound c = search needs
@@ -33,7 +35,8 @@ returns-2 : tie.Need-returns-2
 returns-2 c =
     let a = c .before .before .before .before .before .before .before .before .before .args in
     let u = c .before .before .before .before .before in
-    datagram-area (a .state) _ (u .before .obeys .ensures) (u .if1 .left) (now (a .area)) _ (rest 0 (now (a .area))) _ (c .before .area-sound .ensures) (c .if2 .taken) (now (a .datagram))
+    let e = datagram-area (a .state) _ (u .before .obeys .ensures) (u .if1 .left) (now (a .area)) _ (rest 0 (now (a .area))) _ (c .before .area-sound .ensures) (c .if2 .taken) (now (a .datagram)) in
+    rw (← e) refl
 
 resets-requires : tie.Need-resets-requires
 resets-requires c κs = search needs
@@ -46,7 +49,8 @@ returns-3 c =
     let v = c .before .before .before .before in
     let u = v .before .before .before .before .before in
     let a = u .before .before .before .before .args in
-    datagram-nothing (a .state) _ (u .before .obeys .ensures) (u .if1 .left) (now (a .area)) _ (rest 0 (now (a .area))) _ (v .before .area-sound .ensures) (v .if2 .left) (now (a .datagram)) _ (c .before .resets .ensures) (c .if3 .taken)
+    let e = datagram-nothing (a .state) _ (u .before .obeys .ensures) (u .if1 .left) (now (a .area)) _ (rest 0 (now (a .area))) _ (v .before .area-sound .ensures) (v .if2 .left) (now (a .datagram)) _ (c .before .resets .ensures) (c .if3 .taken) in
+    rw (← e) refl
 
 sub-clear : tie.Need-sub-clear
 sub-clear c = search needs
@@ -79,7 +83,8 @@ returns-4 c =
     let a = u .before .before .before .before .args in
     let e = sound-long (a .state) _ (u .before .obeys .ensures) (u .if1 .left) (now (a .area)) _ (rest 0 (now (a .area))) _ (v .before .area-sound .ensures) (v .if2 .left) in
     let z = all-cleared (now (a .area)) _ e (c .before .before .before .clear .ensures) in
-    datagram-done (a .state) _ (u .before .obeys .ensures) (u .if1 .left) (now (a .area)) _ (rest 0 (now (a .area))) _ (v .before .area-sound .ensures) (v .if2 .left) (now (a .datagram)) _ (w .before .resets .ensures) (w .if3 .left) _ _ (c .fresh .ensures) z
+    let d = datagram-done (a .state) _ (u .before .obeys .ensures) (u .if1 .left) (now (a .area)) _ (rest 0 (now (a .area))) _ (v .before .area-sound .ensures) (v .if2 .left) (now (a .datagram)) _ (w .before .resets .ensures) (w .if3 .left) _ _ (c .fresh .ensures) z in
+    rw (← d) refl
 
 pub datagram-spec : {M : Type 1} → statement M
 datagram-spec =

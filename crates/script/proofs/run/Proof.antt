@@ -3,7 +3,7 @@ use lib.ListN.{length, take, drop}
 use Rattle.laws.proofs.Parts.{rest}
 use Rattle.script.specs.Script.{firstSize}
 use native.Mathlib.Omega.{arith}
-use mathlib.Core.Path.{_≡_, ap, _∙_}
+use mathlib.Core.Path.{_≡_, refl, ap, _∙_}
 use Rattle.script.proofs.Stages.{Playing, playing-none, playing-more, playing-all}
 use borrow.Author.Needs.{needs}
 use Rattle.script.proofs.run.Statement.{statement}
@@ -58,7 +58,8 @@ returns : tie.Need-returns Inv-loop μ-loop
 returns c =
     let l = c .before .loop in
     let a = c .before .before .before .before .before .args in
-    playing-all (a .state) (a .area .now) (a .script .now) (a .output .now) (l .area) (l .output) (l .last .state) (l .last .answer) (l .t .now) (l .inv) (omega arith)
+    let e = playing-all (a .state) (a .area .now) (a .script .now) (a .output .now) (l .area) (l .output) (l .last .state) (l .last .answer) (l .t .now) (l .inv) (omega arith) in
+    rw (← e) refl
 
 pub run-spec : {M : Type 1} → statement M
 run-spec =

@@ -44,12 +44,15 @@ live-at-requires c κs = search needs
 same-length-2 : tie.Need-same-length-2
 same-length-2 c = search needs
 
+-- each refusal by whichever lemma gives its number
 returns-3 : tie.Need-returns-3
 returns-3 c =
     let a = c .before .before .before .before .before .before .before .before .before .before .before .before .before .before .args in
     let u = c .before .before .before .before .before .before .before .before .before in
     let v = c .before .before .before .before in
-    deliver-none (a .self) _ (u .before .obeys .ensures) (now (a .area)) (a .n) (now (a .piece)) (now (a .output)) (u .if1 .left) _ (rest 0 (now (a .area))) _ (v .before .area-sound .ensures) (v .if2 .left) _ (c .before .live-at .ensures) (c .if3 .taken)
+    let none = deliver-none (a .self) _ (u .before .obeys .ensures) (now (a .area)) (a .n) (now (a .piece)) (now (a .output)) (u .if1 .left) _ (rest 0 (now (a .area))) _ (v .before .area-sound .ensures) (v .if2 .left) _ (c .before .live-at .ensures) in
+    let room = deliver-room (a .self) _ (u .before .obeys .ensures) (now (a .area)) (a .n) (now (a .piece)) (now (a .output)) (u .if1 .left) _ (rest 0 (now (a .area))) _ (v .before .area-sound .ensures) (v .if2 .left) _ (c .before .live-at .ensures) in
+    search (none, room, needs)
 
 same-length-3 : tie.Need-same-length-3
 same-length-3 c = search needs
@@ -59,8 +62,9 @@ returns-4 c =
     let a = c .before .before .before .before .before .before .before .before .before .before .before .before .before .before .before .args in
     let u = c .before .before .before .before .before .before .before .before .before .before in
     let v = c .before .before .before .before .before in
-    let w = c .before in
-    deliver-room (a .self) _ (u .before .obeys .ensures) (now (a .area)) (a .n) (now (a .piece)) (now (a .output)) (u .if1 .left) _ (rest 0 (now (a .area))) _ (v .before .area-sound .ensures) (v .if2 .left) _ (w .before .live-at .ensures) (w .if3 .left) (omega arith)
+    let none = deliver-none (a .self) _ (u .before .obeys .ensures) (now (a .area)) (a .n) (now (a .piece)) (now (a .output)) (u .if1 .left) _ (rest 0 (now (a .area))) _ (v .before .area-sound .ensures) (v .if2 .left) _ (c .before .before .live-at .ensures) in
+    let room = deliver-room (a .self) _ (u .before .obeys .ensures) (now (a .area)) (a .n) (now (a .piece)) (now (a .output)) (u .if1 .left) _ (rest 0 (now (a .area))) _ (v .before .area-sound .ensures) (v .if2 .left) _ (c .before .before .live-at .ensures) in
+    search (none, room, needs)
 
 take-in-requires : tie.Need-take-in-requires
 take-in-requires c κs =

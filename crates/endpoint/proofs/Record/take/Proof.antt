@@ -6,11 +6,12 @@ use Rattle.endpoint.proofs.Record.take.Tie as tie
 obeys-requires : tie.Need-obeys-requires
 obeys-requires c κs = search needs
 
+-- each refusal by whichever lemma gives its number
 returns : tie.Need-returns
-returns c = search (take-broken, needs)
+returns c = search (take-broken, take-short, needs)
 
 returns-2 : tie.Need-returns-2
-returns-2 c = search (take-short, needs)
+returns-2 c = search (take-broken, take-short, needs)
 
 take-requires : tie.Need-take-requires
 take-requires c κs = (search (device-rules, needs), search needs)
