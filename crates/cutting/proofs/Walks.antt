@@ -1,17 +1,19 @@
--- CuttingsComeToTheSame: bytes fed in pieces come to what they come to one at a time. Assumes nothing.
+-- CuttingDoesNotMatter: bytes fed in pieces come to what they come to one at a time. Assumes nothing.
 use Prim.Native.Nat.{ℕ, zero, suc, _+_, _-_, _≤_}
 use mathlib.Core.Path.{_≡_, refl, sym, ap, _∙_, fun-ext}
 use mathlib.Core.Bool.{Bool, true, false, cond}
 use mathlib.Core.List.{List, [], _∷_, _++_, append-nil, append-assoc}
 use native.Mathlib.Nat.{add-zero}
 use native.Mathlib.Omega.{arith}
-use lib.Dec.{eqb}
-use lib.ListN.{length, take, drop, length-drop, take-append-drop}
-use borrow.Author.Tests.{ne-eqb}
+use lib.Dec.{ltb, eqb}
+use lib.ListN.{length, take, drop, length-append, length-drop, take-append-drop}
+use lib.Seq.{length-take-le}
+use borrow.Author.Tests.{ne-eqb, ltb-false}
 use Rattle.laws.specs.Lists.{joined}
 use Rattle.octets.specs.Numbers.{Octets}
 use Rattle.octets.proofs.Digits.{octets-take, octets-drop}
 use Rattle.frame.specs.Decide.{decide, taken, settled}
+use Rattle.frame.proofs.Ways.{deciding}
 use Rattle.frame.proofs.Bytes.{part-waits}
 use Rattle.connection.specs.State.{liveAt}
 use Rattle.device.specs.declared.Device.{Device}
@@ -20,6 +22,7 @@ use Rattle.stream.specs.Lent.{countsOf}
 use Rattle.stream.proofs.Bytes.{octets-nil}
 use Rattle.stream.proofs.Stream.{put-elim}
 use Rattle.stream.proofs.Lent.{put-same}
+use Rattle.replies.specs.Bytes.{leastOutput}
 use Rattle.endpoint.specs.declared.Record.{Record}
 use Rattle.feed.specs.Feed.{Feeding, feeding, unfed, isMessage, bytesTaken, replyLength, messageTold, offer, feedMore, feedPiece, feedOf}
 use Rattle.promise.specs.Rulebook.{admit}
@@ -28,8 +31,10 @@ use Rattle.promise.specs.Kept.{heldIn, Kept}
 use Rattle.promise.proofs.OpenConnections.{GoodAt}
 use Rattle.promise.proofs.HeldBytes.{kept-good, kept-counts, kept-area}
 use Rattle.promise.proofs.Kept.{whole-state}
-use Rattle.cutting.specs.Cutting.{feedAll, SameEnd, CuttingsComeToTheSame}
+use Rattle.cutting.specs.Cutting.{feedNext, feedAll, SameEnd, CuttingDoesNotMatter}
 use Rattle.cutting.proofs.LastByte.{needed-some, needed-within, before, last, length-before, split, before-undecided, last-decides, whole-message, last-needed}
+use Rattle.cutting.proofs.Replies.{answering}
+use Rattle.cutting.proofs.Shifts.{next-is}
 use Rattle.cutting.proofs.Offers.{forget, line, ruling, heldBy, good-waits, good-decides, offer-refused, offer-waits, offer-decides, ruled-line, message-answered, offer-ruled}
 
 put-self : (h : Held) (c : ℕ) → put h c (h c) ≡ h
@@ -55,7 +60,7 @@ octets-right (x ∷ a) b o = octets-right a b (λ j. o (suc j))
 -- ---- the walk: each byte is offered alone
 
 module _ (n : ℕ) where
-  abbrev walk : Feeding → List ℕ → Feeding
+  abbrev pub walk : Feeding → List ℕ → Feeding
   walk f [] = f
   walk f (b ∷ q) = walk (forget (offer n f (b ∷ []))) q
 
@@ -63,7 +68,7 @@ module _ (n : ℕ) where
   walk-append [] q f = refl
   walk-append (b ∷ p) q f = walk-append p q (forget (offer n f (b ∷ [])))
 
-  walk-refused : (p : List ℕ) (d : Device) (h : Held) (out : List ℕ) (t u : ℕ) (ms : List (List ℕ)) → GoodAt d h
+  pub walk-refused : (p : List ℕ) (d : Device) (h : Held) (out : List ℕ) (t u : ℕ) (ms : List (List ℕ)) → GoodAt d h
       → (q : ℕ) → admit d n (drop u out) ≡ suc q → walk (line d h out t u ms) p ≡ line d h out t u ms
   walk-refused [] d h out t u ms good q a = refl
   walk-refused (b ∷ p) d h out t u ms good q a =
@@ -161,6 +166,7 @@ module _ (n : ℕ) where
     pub behind : ℕ
     pub told : List (List ℕ)
     pub good : GoodAt device held
+    pub fits : behind ≤ length room
     pub is : f ≡ line device held room count behind told
 
   abbrev Walks : ℕ → Type 0
@@ -246,12 +252,23 @@ module _ (n : ℕ) where
 
   -- ---- pieces one after another
 
-  offer-lined : (p : List ℕ) (d : Device) (h : Held) (out : List ℕ) (t u : ℕ) (ms : List (List ℕ)) → GoodAt d h → Octets p → Lined (forget (offer n (line d h out t u ms) p))
-  offer-lined p d h out t u ms good o = go (admit d n (drop u out)) refl (settled (decide (h n ++ p))) refl
+  -- where nothing is refused, the output is long enough
+  admits-wide : (d : Device) (o : List ℕ) → admit d n o ≡ 0 → leastOutput ≤ length o
+  unfolding admit
+  admits-wide d o a = go (liveAt (d .connections) n) (ltb (length o) leastOutput) refl a
+    where
+      go : (l b : Bool) → ltb (length o) leastOutput ≡ b → cond {A = ℕ} l (cond b 4 0) 3 ≡ 0 → leastOutput ≤ length o
+      go true true e z = absurd (omega arith)
+      go true false e z = ltb-false (length o) leastOutput e
+      go false b e z = absurd (omega arith)
+
+  offer-lined : (p : List ℕ) (d : Device) (h : Held) (out : List ℕ) (t u : ℕ) (ms : List (List ℕ)) → GoodAt d h → u ≤ length out → Octets p
+      → Lined (forget (offer n (line d h out t u ms) p))
+  offer-lined p d h out t u ms good f o = go (admit d n (drop u out)) refl (settled (decide (h n ++ p))) refl
     where
       go : (q : ℕ) → admit d n (drop u out) ≡ q → (b : Bool) → settled (decide (h n ++ p)) ≡ b → Lined (forget (offer n (line d h out t u ms) p))
       go (suc q) a b e =
-          record { device = d; held = h; room = out; count = t; behind = u; told = ms; good = good; is = ap forget (offer-refused n d h good out t u ms p q a) }
+          record { device = d; held = h; room = out; count = t; behind = u; told = ms; good = good; fits = f; is = ap forget (offer-refused n d h good out t u ms p q a) }
       go zero a false e =
           record {
             device = d;
@@ -261,11 +278,16 @@ module _ (n : ℕ) where
             behind = u;
             told = ms;
             good = good-waits d h good n p (drop u out) a o e;
+            fits = f;
             is = ap forget (offer-waits n d h good out t u ms p a e);
           }
       go zero a true e =
           let k = taken (decide (h n ++ p)) in
-          let s = ruling d n (take k (h n ++ p)) (drop u out) in
+          let m = take k (h n ++ p) in
+          let s = ruling d n m (drop u out) in
+          let same = deciding .enough (h n ++ p) e in
+          let lm : length m ≡ k = length-take-le k (h n ++ p) (deciding .within (h n ++ p)) in
+          let w = answering d n m (drop u out) (admits-wide d (drop u out) a) (ap taken same ∙ sym lm) (ap settled same ∙ e) in
           record {
             device = s .0;
             held = heldBy (s .0) (put h n []);
@@ -274,6 +296,7 @@ module _ (n : ℕ) where
             behind = u + replyLength (s .1 .answer);
             told = ms ++ messageTold (s .1 .answer);
             good = good-decides d h good n p (drop u out) a e o;
+            fits = omega (arith, w .fits, w .wide, length-append (take u out) (s .1 .output), length-take-le u out f, length-drop u out);
             is = offer-ruled n d h good out t u ms p a e;
           }
 
@@ -281,7 +304,7 @@ module _ (n : ℕ) where
   walk-lined [] f w o = w
   walk-lined (b ∷ q) f w o =
       walk-lined q (forget (offer n f (b ∷ [])))
-      (rw (w .is) (offer-lined (b ∷ []) (w .device) (w .held) (w .room) (w .count) (w .behind) (w .told) (w .good) (octets-take 1 (b ∷ q) o)))
+      (rw (w .is) (offer-lined (b ∷ []) (w .device) (w .held) (w .room) (w .count) (w .behind) (w .told) (w .good) (w .fits) (octets-take 1 (b ∷ q) o)))
       (octets-drop 1 (b ∷ q) o)
 
   piece-walk : (p : List ℕ) (f : Feeding) → Lined f → Octets p → forget (feedPiece n f p) ≡ walk f p
@@ -289,36 +312,45 @@ module _ (n : ℕ) where
   piece-walk p f w o = rw (w .is) (walks (length p) p (w .device) (w .held) (w .room) (w .count) (w .behind) (w .told) (w .good) o (omega arith))
 
   all-forgot : (pieces : List (List ℕ)) (f : Feeding) → forget (feedAll n f pieces) ≡ forget (feedAll n (forget f) pieces)
-  unfolding feedAll feedPiece offer
+  unfolding feedAll feedNext
   all-forgot [] f = refl
   all-forgot (p ∷ pieces) f = refl
 
-  all-walk : (pieces : List (List ℕ)) (f : Feeding) → Lined f → Octets (joined pieces) → forget (feedAll n f pieces) ≡ walk f (joined pieces)
+  fed-fits : (f : Feeding) → Lined f → f .put ≤ length (f .output)
+  fed-fits f w = rw (w .is) (w .fits)
+
+  pub all-walk : (pieces : List (List ℕ)) (f : Feeding) → Lined f → Octets (joined pieces) → forget (feedAll n f pieces) ≡ walk f (joined pieces)
   unfolding feedAll
   all-walk [] f w o = rw (w .is)
   all-walk (p ∷ pieces) f w o =
       let a = octets-left p (joined pieces) o in
-      all-forgot pieces (feedPiece n f p)
+      ap (λ (g : Feeding). forget (feedAll n g pieces)) (next-is n f (fed-fits f w) p)
+      ∙ all-forgot pieces (feedPiece n f p)
       ∙ ap (λ (g : Feeding). forget (feedAll n g pieces)) (piece-walk p f w a)
       ∙ all-walk pieces (walk f p) (walk-lined p f w a) (octets-right p (joined pieces) o)
       ∙ sym (walk-append p (joined pieces) f)
 
 -- ---- a record and an area that refusals 1 and 2 let pass
 
-kept-lined : (n : ℕ) (r : Record) (area out : List ℕ) → Kept r area → Lined n (unfed r area out)
-kept-lined n r area out w =
+pub unfed-line : (r : Record) (area out : List ℕ) → Kept r area → unfed r area out ≡ line (r .device) (heldIn r area) out 0 0 []
+unfed-line r area out w =
     let h = heldIn r area in
+    sym
+    (ap (λ (x : Record). feeding [] x (areaWith h) out 0 0 []) (whole-state r (countsOf h 8) (kept-counts r area w))
+    ∙ ap (λ (x : List ℕ). feeding [] r x out 0 0 []) (kept-area r area w))
+
+pub kept-lined : (n : ℕ) (r : Record) (area out : List ℕ) → Kept r area → Lined n (unfed r area out)
+kept-lined n r area out w =
     record {
       device = r .device;
-      held = h;
+      held = heldIn r area;
       room = out;
       count = 0;
       behind = 0;
       told = [];
       good = kept-good r area w;
-      is = sym
-          (ap (λ (x : Record). feeding [] x (areaWith h) out 0 0 []) (whole-state r (countsOf h 8) (kept-counts r area w))
-          ∙ ap (λ (x : List ℕ). feeding [] r x out 0 0 []) (kept-area r area w));
+      fits = omega arith;
+      is = unfed-line r area out w;
     }
 
 same-end : (f g : Feeding) → forget f ≡ forget g → SameEnd f g
@@ -348,5 +380,5 @@ uncut r area n out pieces w o =
     let l = kept-lined n r area out w in
     same-end (feedAll n f pieces) (feedPiece n f (joined pieces)) (all-walk n pieces f l o ∙ sym (piece-walk n (joined pieces) f l o))
 
-pub cutting : CuttingsComeToTheSame
+pub cutting : CuttingDoesNotMatter
 cutting = record { recut = recut; uncut = uncut }

@@ -7,6 +7,7 @@ use native.Mathlib.Omega.{arith}
 use lib.ListN.{length, getD}
 use borrow.Author.Tests.{le-leb, lt-leb}
 use Rattle.octets.specs.Numbers.{be16At, be32At, bytes32}
+use Rattle.octets.specs.Zeros.{zeros}
 use Rattle.heartbeat.specs.Beat.{beatOf}
 use Rattle.frame.specs.Limits.{keepAlive}
 use Rattle.frame.specs.Header.{pduType, countFault, fieldsFault, headerFault}
@@ -14,13 +15,13 @@ use Rattle.frame.specs.Decide.{keepAliveFill, dataSound, decideData, decideHead
 use Rattle.frame.specs.declared.Decision.the-variants.{Sound}
 use Rattle.fields.specs.Fields.{heartbeatOf}
 use Rattle.reader.specs.Examples.{keepAlive2s}
-use Rattle.area.specs.Area.{areaSound}
+use Rattle.area.specs.Area.{areaBytes, areaSound}
 use Rattle.connection.specs.State.{liveAt}
 use Rattle.numbers.specs.Refusal.{clockBack}
 use Rattle.device.specs.Time.{tickStep}
 use Rattle.device.proofs.Keeps.{rules-kept}
 use Rattle.stream.specs.Machine.{deliver, ask}
-use Rattle.endpoint.specs.State.{recordObeys}
+use Rattle.endpoint.specs.State.{freshState, recordObeys}
 use Rattle.endpoint.specs.Outcome.{refused}
 use Rattle.endpoint.specs.Calls.{tickedBy, tickCall}
 use Rattle.endpoint.specs.declared.Record.{Record}
@@ -191,6 +192,7 @@ reply status = refl
 pub technician-let-in : TechnicianLetIn
 technician-let-in =
     record {
+      kept = λ reading before b. calls-kept (freshState reading) (zeros areaBytes) before b (calls-keep .fresh reading);
       heard = heard;
       counts = counts;
       waits = waits;

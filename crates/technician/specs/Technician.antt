@@ -8,6 +8,7 @@ use lib.ListN.{length, getD, drop}
 use Rattle.numbers.specs.Status.{heldByOther, carriedOut}
 use Rattle.numbers.specs.Refusal.{clockBack}
 use Rattle.octets.specs.Numbers.{Octets}
+use Rattle.octets.specs.Zeros.{zeros}
 use Rattle.heartbeat.specs.Beat.{beatOf}
 use Rattle.frame.specs.Limits.{headerEnd, keepAlive}
 use Rattle.frame.specs.Header.{pduType}
@@ -15,6 +16,7 @@ use Rattle.frame.specs.Decide.{decide}
 use Rattle.frame.specs.declared.Decision.the-variants.{Undecided, Sound}
 use Rattle.fields.specs.Fields.{heartbeatOf}
 use Rattle.reader.specs.Examples.{keepAlive2s, lock4097, reply7}
+use Rattle.area.specs.Area.{areaBytes}
 use Rattle.connection.specs.State.{closed, liveAt}
 use Rattle.replies.specs.Bytes.{leastOutput}
 use Rattle.device.specs.Time.{stepOf}
@@ -24,6 +26,7 @@ use Rattle.stream.specs.Promise.{AllBytes}
 use Rattle.answers.specs.Numbers.{tickingNumbers}
 use Rattle.answers.specs.declared.Ticking.the-variants as tickings
 use Rattle.endpoint.specs.Outcome.{Outcome, refused}
+use Rattle.endpoint.specs.State.{freshState}
 use Rattle.endpoint.specs.Calls.{tickCall}
 use Rattle.endpoint.specs.Deliver.{heldAt, deliverCall}
 use Rattle.endpoint.specs.declared.Record.{Record}
@@ -164,6 +167,9 @@ pub record Exactly (m : List ℕ) (H last next : ℕ) : Type 0 where
 
 -- Theorem. The tick at which the silence reaches 3 × H lets the technician in, and none does before.
 pub record TechnicianLetIn : Type 0 where
+  -- after any calls from a fresh record and a zeroed area, record and area are as Ends supposes
+  pub kept : (reading : ℕ) (before : List HostCall) → AllBytes before
+      → let now = callsOf (freshState reading) (zeros areaBytes) before in Kept (now .0) (now .1)
   -- a sound message of the tablet clears its silence; a keep-alive sets its heartbeat too
   pub heard : (r : Record) (area : List ℕ) (n : ℕ) (piece out m : List ℕ) → Ends r area n piece out m
       → Watched (deliverCall r area n piece out .state .device) n (beatAfter r n m) 0
