@@ -16,8 +16,7 @@ use Rattle.stream.specs.Machine.{deliver, ask, handed, asked, Held, put, only}
 use Rattle.stream.specs.Promise.{AllBytes}
 use Rattle.stream.specs.Scaffold.{Answer, more, denied, gave, whole, delivered, step}
 use Rattle.stream.specs.Lent.{countsOf}
-use Rattle.stream.proofs.Stream.{put-elim}
-use Rattle.stream.proofs.Lent.{put-same, put-other}
+use Rattle.stream.proofs.Lent.{put-same, put-other, put-self, put-put}
 use Rattle.endpoint.specs.Outcome.{Outcome}
 use Rattle.endpoint.specs.Deliver.{heldAt}
 use Rattle.endpoint.specs.declared.Record.{Record}
@@ -34,17 +33,6 @@ use Rattle.promise.proofs.Kept.{next, call-state, call-area, whole-state}
 use Rattle.mixing.specs.Mixing.{mixedBy, Offer, deliveriesTo, offeredBytes, AllRoomy, toldMore, DecideNothing, NotTo, PassBy, MixedAlike, MixingDoesNotMatter}
 
 -- ---- bytes held
-
-put-self : (h : Held) (c : ℕ) → put h c (h c) ≡ h
-put-self h c = fun-ext λ n. put-elim h c (h c) n (λ x. x ≡ h n) (λ e. ap h (sym e)) refl
-
-put-put : (h : Held) (c : ℕ) (x y : List ℕ) → put (put h c x) c y ≡ put h c y
-unfolding put
-put-put h c x y = fun-ext λ n. go n (eqb n c)
-  where
-    go : (n : ℕ) (t : Bool) → cond t y (cond t x (h n)) ≡ cond t y (h n)
-    go n true = refl
-    go n false = refl
 
 only-put : (t : ℕ → Bool) (h : Held) (c : ℕ) (x : List ℕ) → t c ≡ true → only t (put h c x) ≡ put (only t h) c x
 unfolding only put

@@ -25,7 +25,7 @@ use Rattle.promise.specs.Rulebook.{Given, rule, open?, admit}
 use Rattle.promise.specs.Calls.{HostCall, callOf, runCalls, recordWith, areaWith}
 use Rattle.promise.specs.Scaffold.{outcomeOf}
 use Rattle.promise.specs.Kept.{heldIn, Kept}
-use Rattle.promise.specs.Whole.{upTo, Turn, tells, hands, turnBy, turnOf, deviceBy, turnsOf, wholesIn, withBytes, toldIn, hostSees, AllEndDeciding, byRules, bytesWaiting, AsRules, DemandThree}
+use Rattle.promise.specs.Whole.{upTo, Turn, tells, hands, turnBy, turnOf, deviceBy, turnsOf, wholesIn, withBytes, toldIn, hostSees, AllEndDeciding, frontsOf, byRules, bytesWaiting, leftAfter, AsRules, DemandThree}
 use Rattle.promise.proofs.OpenConnections.{GoodAt, only-same}
 use Rattle.promise.proofs.Calls.{told}
 use Rattle.promise.proofs.HeldBytes.{kept-good, kept-counts, kept-area}
@@ -129,6 +129,10 @@ module _ (d : Device) (turns : List Turn) where
   turn-messages (hands k (handed n m out)) p q = (p .0, q)
   turn-messages (hands k (asked a)) p q = q
 
+-- the record and the area that a call gives
+abbrev standing : Outcome → Record × List ℕ
+standing o = (o .state, o .area)
+
 module _ (d : Device) (h : Held) (c : HostCall) (cs : List HostCall) where
   abbrev turned : Turn × Held
   turned = turnOf d h c
@@ -139,14 +143,29 @@ module _ (d : Device) (h : Held) (c : HostCall) (cs : List HostCall) where
   abbrev then-held : Held
   then-held = only (open? then-device) (turned .1)
 
-  as-cons : (o : Outcome) (run : (Record × List ℕ) × List Outcome) → hostSees o ≡ toldOne d (turned .0)
-      → AllEndDeciding (wholesIn (turned .0 ∷ [])) → AsRules then-device then-held cs run → AsRules d h (c ∷ cs) (run .0, o ∷ run .1)
+  -- what is left after c and some calls is what those leave where c left off
+  left-cons : (front : List HostCall) → leftAfter then-device then-held front ≡ leftAfter d h (c ∷ front)
   unfolding turnsOf
-  as-cons o run p m ih =
+  left-cons front =
+      let g = turnsOf then-device then-held front .1 in
+      ap (λ (e : Device). (recordWith e g, areaWith g)) (sym (turn-device d (turnsOf then-device then-held front .0) (turned .0)))
+
+  fronts-cons : (fronts : List (List HostCall))
+      → map (leftAfter then-device then-held) fronts ≡ map (leftAfter d h) (map (λ (front : List HostCall). c ∷ front) fronts)
+  fronts-cons [] = refl
+  fronts-cons (front ∷ fronts) = rw (fronts-cons fronts) (ap (λ (x : Record × List ℕ). x ∷ map (leftAfter d h) (map (λ (f : List HostCall). c ∷ f) fronts)) (left-cons front))
+
+  as-cons : (o : Outcome) (run : (Record × List ℕ) × List Outcome) → hostSees o ≡ toldOne d (turned .0)
+      → (o .state, o .area) ≡ leftAfter d h (c ∷ []) → AllEndDeciding (wholesIn (turned .0 ∷ [])) → AsRules then-device then-held cs run
+      → AsRules d h (c ∷ cs) (run .0, o ∷ run .1)
+  unfolding turnsOf frontsOf
+  as-cons o run p l m ih =
       let turns = turnsOf then-device then-held cs .0 in
       let x = turn-device d turns (turned .0) in
       record {
         sees = ap (λ (y : Given). y ∷ map hostSees (run .1)) p ∙ ap (λ (l : List Given). toldOne d (turned .0) ∷ l) (ih .sees) ∙ sym (turn-told d turns (turned .0));
+        each = ap (λ (y : Record × List ℕ). y ∷ map standing (run .1)) l
+            ∙ ap (λ (ys : List (Record × List ℕ)). leftAfter d h (c ∷ []) ∷ ys) (ih .each ∙ fronts-cons (frontsOf cs));
         state = ih .state ∙ ap (λ (e : Device). recordWith e (turnsOf then-device then-held cs .1)) (sym x);
         area = ih .area;
         undecided = ih .undecided;
@@ -159,19 +178,33 @@ module _ (d : Device) (h : Held) (c : HostCall) (cs : List HostCall) where
   unfolding turnsOf
   good-cons g = rw (turn-device d (turnsOf then-device then-held cs .0) (turned .0)) g
 
+-- one call leaves what the rules leave
+one-left : (d : Device) (h : Held) (good : GoodAt d h) (c : HostCall) → Bytes c
+    → let o = callOf (recordWith d h) (areaWith h) c in
+    (o .state, o .area) ≡ leftAfter d h (c ∷ [])
+one-left d h good c b =
+    let s = step rule open? admit d h c in
+    let w = one d h good c b in
+    let e = then-device d h c [] in
+    let g = then-held d h c [] in
+    rw (call-state d h good c b, call-area d h good c b, ← (w .device), ← (w .held)) (none e g ∙ left-cons d h c [] [])
+  where
+    none : (e : Device) (g : Held) → (recordWith e g, areaWith g) ≡ leftAfter e g []
+    none e g = unfold turnsOf rules wholesIn in refl
+
 -- THE RUN, from any good state
 pub as-rules : (d : Device) (h : Held) (calls : List HostCall) → GoodAt d h → AllBytes calls
     → AsRules d h calls (runCalls (recordWith d h) (areaWith h) calls)
 unfolding runCalls AllBytes
 as-rules d h [] good b =
-    unfold turnsOf rules wholesIn toldIn AllEndDeciding in
-    record { sees = refl; state = refl; area = refl; undecided = good .waiting; closed = good .empty; messages = tt }
+    unfold turnsOf rules wholesIn toldIn AllEndDeciding frontsOf in
+    record { sees = refl; each = refl; state = refl; area = refl; undecided = good .waiting; closed = good .empty; messages = tt }
 as-rules d h (c ∷ cs) good b =
     let s = step rule open? admit d h c in
     let w = one d h good c (b .0) in
     let o = callOf (recordWith d h) (areaWith h) c in
     let ih = as-rules (s .0 .0) (s .0 .1) cs (next d h good c (b .0)) (b .1) in
-    as-cons d h c cs o (runCalls (o .state) (o .area) cs) (ap hostSees (told d h good c) ∙ w .sees) (w .messages)
+    as-cons d h c cs o (runCalls (o .state) (o .area) cs) (ap hostSees (told d h good c) ∙ w .sees) (one-left d h good c (b .0)) (w .messages)
     (rw (w .held, w .device, call-state d h good c (b .0), call-area d h good c (b .0)) ih)
 
 -- and the rules' device with the bytes that wait is again such a state

@@ -96,36 +96,46 @@ AllEndDeciding [] = Unit {0}
 AllEndDeciding (handed n m out ∷ ws) = LastDecides m × AllEndDeciding ws
 AllEndDeciding (asked a ∷ ws) = AllEndDeciding ws
 
-module _ (d : Device) (h : Held) (calls : List HostCall) where
-  -- R81. The whole calls, from device d with the bytes h waiting.
-  abbrev pub wholesOf : List Asked
-  wholesOf = wholesIn (turnsOf d h calls .0)
+-- R81. The calls up to each of some calls, that one too.
+unfoldable pub frontsOf : List HostCall → List (List HostCall)
+frontsOf [] = []
+frontsOf (c ∷ calls) = (c ∷ []) ∷ map (λ (front : List HostCall). c ∷ front) (frontsOf calls)
+
+module _ (d : Device) (h : Held) where
+  -- R81. The whole calls of some calls, from device d with the bytes h waiting.
+  abbrev pub wholesOf : List HostCall → List Asked
+  wholesOf calls = wholesIn (turnsOf d h calls .0)
 
   -- R81. THE RULES, one whole call after another: the last device, and what each of them gave.
-  abbrev pub byRules : Device × List Given
-  byRules = rules rule d wholesOf
+  abbrev pub byRules : List HostCall → Device × List Given
+  byRules calls = rules rule d (wholesOf calls)
 
   -- R81. So each call's answer and output.
-  abbrev pub hostTold : List Given
-  hostTold = toldIn (turnsOf d h calls .0) (byRules .1)
+  abbrev pub hostTold : List HostCall → List Given
+  hostTold calls = toldIn (turnsOf d h calls .0) (byRules calls .1)
 
   -- R81. The bytes that wait at the end.
-  abbrev pub bytesWaiting : Held
-  bytesWaiting = turnsOf d h calls .1
+  abbrev pub bytesWaiting : List HostCall → Held
+  bytesWaiting calls = turnsOf d h calls .1
+
+  -- R81. The record and the area at the end: the rules' device, and the bytes that wait.
+  abbrev pub leftAfter : List HostCall → Record × List ℕ
+  leftAfter calls = (recordWith (byRules calls .0) (bytesWaiting calls), areaWith (bytesWaiting calls))
 
   -- R81. A run of these calls, its last record and area and what each call gave, is as the rules over whole messages.
-  pub record AsRules (run : (Record × List ℕ) × List Outcome) : Type 0 where
+  pub record AsRules (calls : List HostCall) (run : (Record × List ℕ) × List Outcome) : Type 0 where
     -- every reply, closure, notification, keep-alive and refusal: what each call answers and leaves in the output
-    pub sees : map hostSees (run .1) ≡ hostTold
-    -- every lock, subscription and mute: the record is the rules' device and the counts of the bytes that wait
-    pub state : run .0 .0 ≡ recordWith (byRules .0) bytesWaiting
-    -- the area is those bytes, and zeros
-    pub area : run .0 .1 ≡ areaWith bytesWaiting
+    pub sees : map hostSees (run .1) ≡ hostTold calls
+    -- every lock, subscription and mute, after each call: its record and area are those of the rules after the calls up to it
+    pub each : map (λ (o : Outcome). (o .state, o .area)) (run .1) ≡ map leftAfter (frontsOf calls)
+    -- at the end the record is the rules' device and the counts of the bytes that wait, the area those bytes and zeros
+    pub state : run .0 .0 ≡ recordWith (byRules calls .0) (bytesWaiting calls)
+    pub area : run .0 .1 ≡ areaWith (bytesWaiting calls)
     -- the bytes that wait are undecided, and a closed connection has none
-    pub undecided : (n : ℕ) → settled (decide (bytesWaiting n)) ≡ false
-    pub closed : (n : ℕ) → open? (byRules .0) n ≡ false → bytesWaiting n ≡ []
+    pub undecided : (n : ℕ) → settled (decide (bytesWaiting calls n)) ≡ false
+    pub closed : (n : ℕ) → open? (byRules calls .0) n ≡ false → bytesWaiting calls n ≡ []
     -- each message was handed over at the place of its deciding byte
-    pub messages : AllEndDeciding wholesOf
+    pub messages : AllEndDeciding (wholesOf calls)
 
 -- Theorem. What any calls give is what the rules give over whole messages, each at the place of its deciding byte, and undecided bytes.
 pub record DemandThree : Type 0 where

@@ -1,9 +1,9 @@
--- A step of the machine over pieces keeps undecided bytes waiting, and what a step is. Assumes nothing.
-use Prim.Native.Nat.{ℕ, zero, suc, _-_}
+-- A step of the machine over pieces keeps undecided bytes waiting. Assumes nothing.
+use Prim.Native.Nat.{ℕ, zero, suc}
 use mathlib.Core.Path.{_≡_, refl, sym, ap, _∙_}
 use mathlib.Core.Bool.{Bool, true, false, cond, true≢false}
 use mathlib.Core.List.{List, [], _++_}
-use lib.ListN.{length, take}
+use lib.ListN.{take}
 use lib.Dec.{eqb}
 use borrow.Author.Tests.{eqb-true}
 use Rattle.octets.specs.Numbers.{Octets}
@@ -12,7 +12,7 @@ use Rattle.frame.specs.Decide.{decide, taken, settled}
 use Rattle.frame.proofs.Bytes.{nil-waits}
 use Rattle.stream.specs.Machine.{Call, deliver, ask, Whole, handed, asked, Held, put, only}
 use Rattle.stream.specs.Promise.{Bytes}
-use Rattle.stream.specs.Scaffold.{Answer, more, whole, delivered, step, Apt, Good, Laws}
+use Rattle.stream.specs.Scaffold.{Answer, whole, delivered, step, Apt, Good, Laws}
 use Rattle.stream.proofs.Bytes.{decides, octets-nil, octets-append}
 
 -- what holds of x, and of what the other connections hold, holds after the put
@@ -25,65 +25,53 @@ put-elim h c x n P a b = go (eqb n c) refl
     go false e = b
 
 module _ {R Out Ask Room : Type 0} (rule : R → Whole Ask Room → R × Out) (open? : R → ℕ → Bool) (admit : R → ℕ → Room → ℕ)
+    (shut : Whole Ask Room → Out → ℕ → Bool) (Fine : R → Type 0) (laws : Laws rule open? admit shut Fine)
   where
-    -- a piece that decides nothing, and one that does
-    pub step-waits : (r : R) (h : Held) (c : ℕ) (p : List ℕ) (x : Room) → admit r c x ≡ 0 → settled (decide (h c ++ p)) ≡ false
-        → step rule open? admit r h (deliver c p x) ≡ ((r, put h c (h c ++ p)), more)
-    unfolding step delivered
-    step-waits r h c p x o u = rw (o, u)
+    -- a whole call keeps the state good
+    whole-good : (r : R) (h : Held) (w : Whole Ask Room) → Good open? Fine r h → Apt admit r w
+        → Good open? Fine ((rule r w) .0) (only (open? ((rule r w) .0)) h)
+    unfolding only
+    whole-good r h w good a = record { fine = laws .keeps r w (good .fine) a; waiting = λ n. wait n (open? ((rule r w) .0) n); empty = λ n e. rw e; octets = λ n. byte n (open? ((rule r w) .0) n) }
+      where
+        byte : (n : ℕ) (t : Bool) → Octets (cond t (h n) [])
+        byte n true = good .octets n
+        byte n false = octets-nil
 
-    pub step-decides : (r : R) (h : Held) (c : ℕ) (p : List ℕ) (x : Room) → admit r c x ≡ 0 → settled (decide (h c ++ p)) ≡ true
-        → step rule open? admit r h (deliver c p x)
-        ≡ whole rule open? admit r (put h c []) (handed c (take (taken (decide (h c ++ p))) (h c ++ p)) x) (taken (decide (h c ++ p)) - length (h c))
-    unfolding step delivered
-    step-decides r h c p x o e = rw (o, e)
+        wait : (n : ℕ) (t : Bool) → settled (decide (cond t (h n) [])) ≡ false
+        wait n true = good .waiting n
+        wait n false = nil-waits
 
-    module _ (shut : Whole Ask Room → Out → ℕ → Bool) (Fine : R → Type 0) (laws : Laws rule open? admit shut Fine) where
-      -- a whole call keeps the state good
-      whole-good : (r : R) (h : Held) (w : Whole Ask Room) → Good open? Fine r h → Apt admit r w
-          → Good open? Fine ((rule r w) .0) (only (open? ((rule r w) .0)) h)
-      unfolding only
-      whole-good r h w good a = record { fine = laws .keeps r w (good .fine) a; waiting = λ n. wait n (open? ((rule r w) .0) n); empty = λ n e. rw e; octets = λ n. byte n (open? ((rule r w) .0) n) }
-        where
-          byte : (n : ℕ) (t : Bool) → Octets (cond t (h n) [])
-          byte n true = good .octets n
-          byte n false = octets-nil
+    -- a connection whose bytes are handed over holds none
+    emptied : (r : R) (h : Held) (c : ℕ) → Good open? Fine r h → Good open? Fine r (put h c [])
+    emptied r h c good =
+        record {
+          fine = good .fine;
+          waiting = λ n. put-elim h c [] n (λ x. settled (decide x) ≡ false) (λ q. nil-waits) (good .waiting n);
+          empty = λ n z. put-elim h c [] n (λ x. x ≡ []) (λ q. refl) (good .empty n z);
+          octets = λ n. put-elim h c [] n (λ x. Octets x) (λ q. octets-nil) (good .octets n);
+        }
 
-          wait : (n : ℕ) (t : Bool) → settled (decide (cond t (h n) [])) ≡ false
-          wait n true = good .waiting n
-          wait n false = nil-waits
+    abbrev Keeps : (R × Held) × Answer Out → Type 0
+    Keeps s = Good open? Fine (s .0 .0) (s .0 .1)
 
-      -- a connection whose bytes are handed over holds none
-      emptied : (r : R) (h : Held) (c : ℕ) → Good open? Fine r h → Good open? Fine r (put h c [])
-      emptied r h c good =
-          record {
-            fine = good .fine;
-            waiting = λ n. put-elim h c [] n (λ x. settled (decide x) ≡ false) (λ q. nil-waits) (good .waiting n);
-            empty = λ n z. put-elim h c [] n (λ x. x ≡ []) (λ q. refl) (good .empty n z);
-            octets = λ n. put-elim h c [] n (λ x. Octets x) (λ q. octets-nil) (good .octets n);
-          }
+    delivery-good : (r : R) (h : Held) (c : ℕ) (p : List ℕ) (x : Room) → Octets p → Good open? Fine r h
+        → (q : ℕ) (b : Bool) → admit r c x ≡ q → settled (decide (h c ++ p)) ≡ b → Keeps (delivered rule open? admit q b r h c p x)
+    unfolding delivered whole
+    delivery-good r h c p x op good (suc q) b o e = good
+    delivery-good r h c p x op good zero false o e =
+        record {
+          fine = good .fine;
+          waiting = λ n. put-elim h c (h c ++ p) n (λ y. settled (decide y) ≡ false) (λ q. e) (good .waiting n);
+          empty = λ n z. put-elim h c (h c ++ p) n (λ y. y ≡ []) (λ q. absurd (true≢false (sym (laws .admits r c x (good .fine) o) ∙ ap (open? r) (sym q) ∙ z))) (good .empty n z);
+          octets = λ n. put-elim h c (h c ++ p) n (λ y. Octets y) (λ q. octets-append (h c) p (good .octets c) op) (good .octets n);
+        }
+    delivery-good r h c p x op good zero true o e =
+        let xs = h c ++ p in
+        let k = taken (decide xs) in
+        whole-good r (put h c []) (handed c (take k xs) x) (emptied r h c good)
+        (o, decides xs e, octets-take k xs (octets-append (h c) p (good .octets c) op))
 
-      abbrev Keeps : (R × Held) × Answer Out → Type 0
-      Keeps s = Good open? Fine (s .0 .0) (s .0 .1)
-
-      delivery-good : (r : R) (h : Held) (c : ℕ) (p : List ℕ) (x : Room) → Octets p → Good open? Fine r h
-          → (q : ℕ) (b : Bool) → admit r c x ≡ q → settled (decide (h c ++ p)) ≡ b → Keeps (delivered rule open? admit q b r h c p x)
-      unfolding delivered whole
-      delivery-good r h c p x op good (suc q) b o e = good
-      delivery-good r h c p x op good zero false o e =
-          record {
-            fine = good .fine;
-            waiting = λ n. put-elim h c (h c ++ p) n (λ y. settled (decide y) ≡ false) (λ q. e) (good .waiting n);
-            empty = λ n z. put-elim h c (h c ++ p) n (λ y. y ≡ []) (λ q. absurd (true≢false (sym (laws .admits r c x (good .fine) o) ∙ ap (open? r) (sym q) ∙ z))) (good .empty n z);
-            octets = λ n. put-elim h c (h c ++ p) n (λ y. Octets y) (λ q. octets-append (h c) p (good .octets c) op) (good .octets n);
-          }
-      delivery-good r h c p x op good zero true o e =
-          let xs = h c ++ p in
-          let k = taken (decide xs) in
-          whole-good r (put h c []) (handed c (take k xs) x) (emptied r h c good)
-          (o, decides xs e, octets-take k xs (octets-append (h c) p (good .octets c) op))
-
-      pub step-good : (r : R) (h : Held) (c : Call Ask Room) → Bytes c → Good open? Fine r h → Keeps (step rule open? admit r h c)
-      unfolding step whole
-      step-good r h (deliver c p x) b good = delivery-good r h c p x b good (admit r c x) (settled (decide (h c ++ p))) refl refl
-      step-good r h (ask a) b good = whole-good r h (asked a) good tt
+    pub step-good : (r : R) (h : Held) (c : Call Ask Room) → Bytes c → Good open? Fine r h → Keeps (step rule open? admit r h c)
+    unfolding step whole
+    step-good r h (deliver c p x) b good = delivery-good r h c p x b good (admit r c x) (settled (decide (h c ++ p))) refl refl
+    step-good r h (ask a) b good = whole-good r h (asked a) good tt
