@@ -171,8 +171,11 @@ module _ {taped : Bool} {tape text input : List ℕ} {offset held handed : ℕ} 
           limit = λ x. absurd (true≢false (sym o ∙ x));
           count = λ x. absurd (true≢false (sym o ∙ x));
           read = seen-read;
+          place = t .within;
+          rest = [];
           kept = λ e. t .keeps e .all u ∙ rw (g .kept e);
-          all = λ e x y. sym (tape-here e ∙ rw b (ap (λ (x : List ℕ). g .said ++ x) (append-nil (pieceText e₀ offset s))));
+          taped-front = λ e. append-nil (g .said ++ pieceText e₀ offset s) ∙ sym (tape-here e ∙ rw b (ap (λ (x : List ℕ). g .said ++ x) (append-nil (pieceText e₀ offset s))));
+          taped-whole = λ e x y. refl;
           full = λ e x. absurd (true≢false (sym x ∙ t .tape-read e ∙ u));
         }
 
@@ -198,8 +201,11 @@ module _ {taped : Bool} {tape text input : List ℕ} {offset held handed : ℕ} 
           limit = λ x. absurd (true≢false (sym o ∙ x));
           count = λ x. absurd (true≢false (sym o ∙ x));
           read = seen-read;
+          place = t .within;
+          rest = pieceText e₀ offset s ++ cond (over e₀ s) [] (listingFrom (offset + listedBytes s) (unlisted s ++ drop (length seen) tape));
           kept = λ e. t .keeps e .none u ∙ g .kept e;
-          all = λ e x y. absurd (true≢false (sym u ∙ t .fails y));
+          taped-front = λ e. sym (tape-here e);
+          taped-whole = λ e x y. absurd (true≢false (sym u ∙ t .fails y));
           full = λ e x. longer u e;
         }
 
@@ -211,8 +217,8 @@ module _ {taped : Bool} {tape text input : List ℕ} {offset held handed : ℕ} 
         go false u = last-said u o
 
   -- the offset's limit
-  pub running-limit : greatestOffset ≤ offset → ListingEnds taped tape text (record { offset = offset; held = held; handed = handed; over = false; failed = false })
-  running-limit n =
+  pub running-limit : greatestOffset ≤ offset → handed ≤ length text → ListingEnds taped tape text (record { offset = offset; held = held; handed = handed; over = false; failed = false })
+  running-limit n place =
       record {
         seen = g .seen;
         said = g .said;
@@ -222,14 +228,23 @@ module _ {taped : Bool} {tape text input : List ℕ} {offset held handed : ℕ} 
         limit = λ x. n;
         count = λ x. g .count;
         read = g .read;
+        place = place;
+        rest = listingFrom offset (take held input ++ drop (length (g .seen)) tape);
         kept = g .kept;
-        all = λ e x y. absurd (true≢false (sym x));
+        taped-front = λ e. sym (ap listing (tape-parts e) ∙ goes-on-with (drop (length (g .seen)) tape));
+        taped-whole = λ e x y. absurd (true≢false (sym x));
         full = λ e x. absurd (true≢false (sym x));
       }
 
 -- over a tape whose offsets can be counted, with room for its listing
-pub taped-whole : {tape text : List ℕ} {r : State} → ListingEnds true tape text r → TapeListed tape text (r .handed)
-taped-whole {tape} {text} {r} z = record { whole = λ few room. z .kept refl ∙ z .all refl (go few (r .over) refl) (on room (r .failed) refl) }
+pub tape-listed : {tape text : List ℕ} {r : State} → ListingEnds true tape text r → TapeListed tape text (r .handed)
+tape-listed {tape} {text} {r} z =
+    record {
+      rest = z .rest;
+      place = z .place;
+      front = rw (z .kept refl) (z .taped-front refl);
+      whole = λ few room. z .taped-whole refl (go few (r .over) refl) (on room (r .failed) refl);
+    }
   where
     go : length tape < greatestOffset → (b : Bool) → r .over ≡ b → r .over ≡ true
     go few true e = e
@@ -240,7 +255,7 @@ taped-whole {tape} {text} {r} z = record { whole = λ few room. z .kept refl ∙
     on room false e = e
 
 -- without a tape, whatever stands in its place
-pub untaped : {tape text : List ℕ} {r : State} → ListingEnds false tape text r → ListingEnds false [] [] r
+pub untaped : {tape text : List ℕ} {r : State} → ListingEnds false tape text r → ListingEnds false [] text r
 untaped z =
     record {
       seen = z .seen;
@@ -250,8 +265,11 @@ untaped z =
       whole = z .whole;
       limit = z .limit;
       count = z .count;
+      place = z .place;
+      rest = [];
       read = λ e. absurd (true≢false (sym e));
       kept = λ e. absurd (true≢false (sym e));
-      all = λ e. absurd (true≢false (sym e));
+      taped-front = λ e. absurd (true≢false (sym e));
+      taped-whole = λ e x y. refl;
       full = λ e. absurd (true≢false (sym e));
     }

@@ -31,18 +31,25 @@ pub record ListingEnds (taped : Bool) (tape text : List ℕ) (r : State) : Type 
   pub whole : r .over ≡ true → r .failed ≡ false → said ≡ listing seen
   pub limit : r .over ≡ false → greatestOffset ≤ r .offset
   pub count : r .over ≡ false → r .offset + r .held ≡ length seen
-  -- over a tape
+  pub place : r .handed ≤ length text
+  -- over a tape, and what is not kept of its listing
+  pub rest : List ℕ
   pub read : taped ≡ true → seen ≡ take (length seen) tape
   pub kept : taped ≡ true → take (r .handed) text ≡ said
-  pub all : taped ≡ true → r .over ≡ true → r .failed ≡ false → said ≡ listing tape
+  pub taped-front : taped ≡ true → said ++ rest ≡ listing tape
+  pub taped-whole : taped ≡ true → r .over ≡ true → r .failed ≡ false → rest ≡ []
   pub full : taped ≡ true → r .failed ≡ true → length text < length (listing tape)
 
 -- R80. The listing of a descriptor answers true where it ended with the last line, and nothing failed.
 pub record DescriptorListed (r : Bool) : Type 0 where
   pub state : State
-  pub ended : ListingEnds false [] [] state
+  pub ended : (text : List ℕ) × ListingEnds false [] text state
   pub answer : r ≡ state .over && not (state .failed)
 
--- R80. Over a tape whose offsets can be counted, with room for its listing: what is kept is the listing, however it was cut.
+-- R80. What is kept over a tape is a front of its listing, however it was cut into reads; all of it where there is room, and the
+-- tape's offsets can be counted.
 pub record TapeListed (tape text : List ℕ) (r : ℕ) : Type 0 where
-  pub whole : length tape < greatestOffset → length (listing tape) ≤ length text → take r text ≡ listing tape
+  pub rest : List ℕ
+  pub place : r ≤ length text
+  pub front : take r text ++ rest ≡ listing tape
+  pub whole : length tape < greatestOffset → length (listing tape) ≤ length text → rest ≡ []

@@ -16,7 +16,7 @@ list-from-requires c κs = search needs
 returns : tie.Need-returns
 returns c =
     let t = c .before .before .before .list-from in
-    record { state = t .result; ended = untaped (t .ensures); answer = refl }
+    record { state = t .result; ended = (_, untaped (t .ensures)); answer = refl }
 
 pub list-spec : {M : Type 1} → statement M
 list-spec =

@@ -80,7 +80,7 @@ same-length-2 c =
 returns-2 : tie.Need-returns-2 Inv-loop μ-loop
 returns-2 c =
     let l = c .before .before .before .loop in
-    running-limit (l .inv .5) (omega arith)
+    running-limit (l .inv .5) (omega arith) (l .inv .4)
 
 pub list-from-spec : {M : Type 1} → statement M
 list-from-spec =
