@@ -12,7 +12,7 @@ use Rattle.frame.specs.declared.Decision.the-variants.{Undecided, Faulty, Sound
 use Rattle.frame.proofs.Ways.{deciding}
 use Rattle.connection.specs.State.{liveAt}
 use Rattle.device.specs.declared.Device.{Device}
-use Rattle.stream.specs.Machine.{deliver, handed, Held, put, only}
+use Rattle.stream.specs.Calls.{deliver, handed, Held, put, only}
 use Rattle.stream.specs.Scaffold.{whole, delivered, step}
 use Rattle.endpoint.specs.Outcome.{Outcome, outcome}
 use Rattle.endpoint.specs.Deliver.{deliverCall}

@@ -14,7 +14,7 @@ use Rattle.frame.specs.Decide.{decide, taken, settled}
 use Rattle.frame.proofs.Ways.{deciding}
 use Rattle.connection.specs.State.{liveAt}
 use Rattle.device.specs.declared.Device.{Device}
-use Rattle.stream.specs.Machine.{Held, put, only}
+use Rattle.stream.specs.Calls.{Held, put, only}
 use Rattle.stream.proofs.Lent.{put-same, getD-counted}
 use Rattle.endpoint.specs.Deliver.{heldAt}
 use Rattle.endpoint.specs.declared.Record.{Record}

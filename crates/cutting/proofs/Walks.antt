@@ -1,11 +1,11 @@
 -- CuttingDoesNotMatter: bytes fed in pieces come to what they come to one at a time. Assumes nothing.
 use Prim.Native.Nat.{ℕ, zero, suc, _+_, _-_, _≤_}
-use mathlib.Core.Path.{_≡_, refl, sym, ap, _∙_, fun-ext}
+use mathlib.Core.Path.{_≡_, refl, sym, ap, _∙_}
 use mathlib.Core.Bool.{Bool, true, false, cond}
 use mathlib.Core.List.{List, [], _∷_, _++_, append-nil, append-assoc}
 use native.Mathlib.Nat.{add-zero}
 use native.Mathlib.Omega.{arith}
-use lib.Dec.{ltb, eqb}
+use lib.Dec.{ltb}
 use lib.ListN.{length, take, drop, length-append, length-drop, take-append-drop}
 use lib.Seq.{length-take-le}
 use borrow.Author.Tests.{ne-eqb, ltb-false}
@@ -17,11 +17,10 @@ use Rattle.frame.proofs.Ways.{deciding}
 use Rattle.frame.proofs.Bytes.{part-waits}
 use Rattle.connection.specs.State.{liveAt}
 use Rattle.device.specs.declared.Device.{Device}
-use Rattle.stream.specs.Machine.{Held, put}
+use Rattle.stream.specs.Calls.{Held, put}
 use Rattle.stream.specs.Lent.{countsOf}
 use Rattle.stream.proofs.Bytes.{octets-nil}
-use Rattle.stream.proofs.Stream.{put-elim}
-use Rattle.stream.proofs.Lent.{put-same}
+use Rattle.stream.proofs.Lent.{put-same, put-self, put-put}
 use Rattle.replies.specs.Bytes.{leastOutput}
 use Rattle.endpoint.specs.declared.Record.{Record}
 use Rattle.feed.specs.Feed.{Feeding, feeding, unfed, isMessage, bytesTaken, replyLength, messageTold, offer, feedMore, feedPiece, feedOf}
@@ -36,17 +35,6 @@ use Rattle.cutting.proofs.LastByte.{needed-some, needed-within, before,
 use Rattle.cutting.proofs.Replies.{answering}
 use Rattle.cutting.proofs.Shifts.{next-is}
 use Rattle.cutting.proofs.Offers.{forget, line, ruling, heldBy, good-waits, good-decides, offer-refused, offer-waits, offer-decides, ruled-line, message-answered, offer-ruled}
-
-put-self : (h : Held) (c : ℕ) → put h c (h c) ≡ h
-put-self h c = fun-ext λ n. put-elim h c (h c) n (λ x. x ≡ h n) (λ e. ap h (sym e)) refl
-
-put-put : (h : Held) (c : ℕ) (x y : List ℕ) → put (put h c x) c y ≡ put h c y
-unfolding put
-put-put h c x y = fun-ext λ n. go n (eqb n c)
-  where
-    go : (n : ℕ) (t : Bool) → cond t y (cond t x (h n)) ≡ cond t y (h n)
-    go n true = refl
-    go n false = refl
 
 octets-left : (a b : List ℕ) → Octets (a ++ b) → Octets a
 octets-left [] b o i = octets-nil i

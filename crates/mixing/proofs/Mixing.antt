@@ -12,8 +12,7 @@ use Rattle.frame.proofs.Bytes.{part-waits}
 use Rattle.area.specs.Area.{undecidedOf}
 use Rattle.device.specs.declared.Device.{Device}
 use Rattle.replies.specs.Bytes.{leastOutput}
-use Rattle.stream.specs.Machine.{deliver, ask, handed, asked, Held, put, only}
-use Rattle.stream.specs.Promise.{AllBytes}
+use Rattle.stream.specs.Calls.{deliver, ask, handed, asked, Held, put, only, AllBytes}
 use Rattle.stream.specs.Scaffold.{Answer, more, denied, gave, whole, delivered, step}
 use Rattle.stream.specs.Lent.{countsOf}
 use Rattle.stream.proofs.Lent.{put-same, put-other, put-self, put-put}

@@ -11,8 +11,7 @@ use Rattle.connection.specs.State.{liveAt}
 use Rattle.replies.specs.Bytes.{leastOutput}
 use Rattle.answers.specs.Numbers.{deliveryNumbers}
 use Rattle.answers.specs.declared.Delivery.the-variants as deliveries
-use Rattle.stream.specs.Machine.{deliver, ask}
-use Rattle.stream.specs.Promise.{AllBytes}
+use Rattle.stream.specs.Calls.{deliver, ask, AllBytes}
 use Rattle.endpoint.specs.Deliver.{heldAt}
 use Rattle.endpoint.specs.declared.Record.{Record}
 use Rattle.promise.specs.Rulebook.{Given, given}

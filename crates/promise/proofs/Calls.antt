@@ -18,7 +18,7 @@ use Rattle.device.specs.declared.Opening.{Opening}
 use Rattle.device.specs.declared.Opening.the-variants as opens
 use Rattle.device.specs.declared.Ticking.{Ticking}
 use Rattle.device.specs.declared.Ticking.the-variants as ticks
-use Rattle.stream.specs.Machine.{deliver, ask, asked, Held, none-held, put, only}
+use Rattle.stream.specs.Calls.{deliver, ask, asked, Held, none-held, put, only}
 use Rattle.stream.specs.Scaffold.{Answer, whole, delivered, step}
 use Rattle.stream.specs.Lent.{flat, countsOf}
 use Rattle.stream.proofs.Lent.{clear-flat, put-same, put-other, set-counted, closed-flat, held-counted, counted-none, flat-none}

@@ -42,8 +42,7 @@ use Rattle.device.specs.declared.Ticking.the-variants as ticks
 use Rattle.device.proofs.Shapes.{target-is, status-allowed}
 use Rattle.serve.specs.Serve.{ranWith, ranFirst, lastOf}
 use Rattle.serve.specs.Sound.{Ruled, commandsOf, keptAlive, soundOf}
-use Rattle.stream.specs.Machine.{handed, asked, none-held, rules}
-use Rattle.stream.specs.Promise.{AllBytes}
+use Rattle.stream.specs.Calls.{handed, asked, none-held, rules, AllBytes}
 use Rattle.endpoint.specs.State.{freshState}
 use Rattle.replies.specs.Bytes.{leastOutput}
 use Rattle.taking.specs.Dispatch.{notifiedOf}

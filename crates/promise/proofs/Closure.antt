@@ -37,7 +37,7 @@ use Rattle.device.specs.Closure.{isLockOf, isEntryOf, locksOf, subscriptionsOf,
 use Rattle.device.specs.declared.Device.{Device}
 use Rattle.device.proofs.Keeps.{Obeys, obeys-are}
 use Rattle.device.proofs.Closures.{closure-frees}
-use Rattle.stream.specs.Machine.{Held, put, only}
+use Rattle.stream.specs.Calls.{Held, put, only}
 use Rattle.stream.specs.Lent.{partHolding, flat, countsOf}
 use Rattle.stream.proofs.Lent.{Small, put-same, put-other, getD-counted, set-counted, part-flat, clear-flat}
 use Rattle.stream.proofs.Stream.{put-elim}

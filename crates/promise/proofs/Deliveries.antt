@@ -16,7 +16,7 @@ use Rattle.connection.specs.State.{liveAt}
 use Rattle.device.specs.State.{closeOf}
 use Rattle.device.specs.declared.Device.{Device}
 use Rattle.serve.specs.Sound.{soundOf}
-use Rattle.stream.specs.Machine.{deliver, Held, put, only}
+use Rattle.stream.specs.Calls.{deliver, Held, put, only}
 use Rattle.stream.specs.Scaffold.{whole, delivered}
 use Rattle.stream.specs.Lent.{flat, countsOf}
 use Rattle.stream.proofs.Lent.{Small, put-same, put-other, getD-counted, set-counted, undecided-flat, clear-flat, put-flat, area-flat}

@@ -33,7 +33,7 @@ use Rattle.device.specs.declared.Ticking.the-variants as ticks
 use Rattle.device.proofs.Keeps.{rules-kept}
 use Rattle.serve.specs.Sound.{soundOf}
 use Rattle.serve.proofs.Keeps.{sound-kept}
-use Rattle.stream.specs.Machine.{handed, asked}
+use Rattle.stream.specs.Calls.{handed, asked}
 use Rattle.stream.specs.Scaffold.{Decides, Apt, Laws}
 use Rattle.replies.specs.Bytes.{leastOutput}
 use Rattle.taking.specs.Dispatch.{subscriptionAt, notifiedOf}

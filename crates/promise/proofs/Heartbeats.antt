@@ -32,7 +32,7 @@ use Rattle.device.specs.Run.{muteAt}
 use Rattle.device.specs.declared.Device.{Device}
 use Rattle.device.proofs.Keeps.{rules-kept}
 use Rattle.serve.specs.Sound.{soundOf}
-use Rattle.stream.specs.Machine.{ask}
+use Rattle.stream.specs.Calls.{ask}
 use Rattle.endpoint.specs.State.{stateOf, recordObeys}
 use Rattle.endpoint.specs.Calls.{tickCall}
 use Rattle.delivery.specs.Intake.{messaged, deliveredBy, takenIn}

@@ -20,7 +20,7 @@ use Rattle.frame.proofs.Bytes.{nil-waits}
 use Rattle.area.specs.Area.{partBytes, areaBytes, partAt, partSound, partsSound, areaSound, undecidedOf, countObeys, heldObeys}
 use Rattle.connection.specs.State.{liveAt}
 use Rattle.device.specs.Obeys.{deviceObeys}
-use Rattle.stream.specs.Machine.{Held}
+use Rattle.stream.specs.Calls.{Held}
 use Rattle.stream.specs.Lent.{partHolding, flat, countsOf}
 use Rattle.stream.proofs.Lent.{length-counted, getD-counted}
 use Rattle.stream.proofs.Bytes.{octets-nil}

@@ -11,8 +11,7 @@ use Rattle.frame.proofs.Bytes.{nil-waits}
 use Rattle.area.specs.Area.{partBytes, areaBytes}
 use Rattle.device.specs.State.{freshOf}
 use Rattle.device.specs.declared.Device.{Device}
-use Rattle.stream.specs.Machine.{deliver, ask, Held, none-held}
-use Rattle.stream.specs.Promise.{Bytes}
+use Rattle.stream.specs.Calls.{deliver, ask, Held, none-held, Bytes}
 use Rattle.stream.specs.Scaffold.{Answer, step}
 use Rattle.stream.specs.Lent.{partHolding, flat, countsOf}
 use Rattle.stream.proofs.Bytes.{octets-nil, octets-append}

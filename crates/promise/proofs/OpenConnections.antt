@@ -23,7 +23,7 @@ use Rattle.device.specs.declared.Opened.{Opened}
 use Rattle.serve.specs.Sound.{soundOf}
 use Rattle.serve.proofs.Keeps.{sound-kept}
 use Rattle.device.proofs.Closures.{closure-frees}
-use Rattle.stream.specs.Machine.{Held, only}
+use Rattle.stream.specs.Calls.{Held, only}
 use Rattle.stream.specs.Scaffold.{livesOf, Good}
 use Rattle.stream.specs.Lent.{countsOf}
 use Rattle.stream.proofs.Lent.{getD-counted, length-lives-of, getD-lives-of}

@@ -16,8 +16,7 @@ use Rattle.mechanism.proofs.Kept.{resets-exactly}
 use Rattle.connection.specs.State.{liveAt}
 use Rattle.device.specs.State.{freshOf}
 use Rattle.device.specs.declared.Device.{Device}
-use Rattle.stream.specs.Machine.{ask, Held, none-held, only, rules}
-use Rattle.stream.specs.Promise.{AllBytes}
+use Rattle.stream.specs.Calls.{ask, Held, none-held, only, rules, AllBytes}
 use Rattle.endpoint.specs.State.{freshState, recordObeys}
 use Rattle.numbers.specs.Refusal.{badRecord, badArea}
 use Rattle.endpoint.specs.Outcome.{Outcome, outcome, refused}

@@ -19,7 +19,7 @@ use Rattle.device.specs.Obeys.{deviceObeys}
 use Rattle.device.specs.Time.{tickStep, tickOf}
 use Rattle.device.specs.Closure.{Passing}
 use Rattle.device.specs.declared.Ticking.the-variants as ticks
-use Rattle.stream.specs.Machine.{asked}
+use Rattle.stream.specs.Calls.{asked}
 use Rattle.endpoint.specs.State.{recordObeys}
 use Rattle.endpoint.specs.Outcome.{Outcome}
 use Rattle.endpoint.specs.Calls.{tickedBy, tickCall}

@@ -14,8 +14,7 @@ use Rattle.split.specs.Exactly.{LastDecides}
 use Rattle.area.specs.Area.{areaBytes}
 use Rattle.device.specs.State.{freshOf}
 use Rattle.device.specs.declared.Device.{Device}
-use Rattle.stream.specs.Machine.{deliver, ask, handed, asked, Held, none-held, put, only, rules}
-use Rattle.stream.specs.Promise.{Bytes, AllBytes}
+use Rattle.stream.specs.Calls.{deliver, ask, handed, asked, Held, none-held, put, only, rules, Bytes, AllBytes}
 use Rattle.stream.specs.Scaffold.{Answer, whole, delivered, step}
 use Rattle.stream.specs.Lent.{countsOf}
 use Rattle.endpoint.specs.State.{freshState, stateOf}

@@ -11,7 +11,7 @@ use Rattle.objects.specs.Answers.{identificationOf}
 use Rattle.device.specs.State.{freshOf, openOf}
 use Rattle.device.specs.Time.{stepOf}
 use Rattle.device.specs.declared.Device.{Device}
-use Rattle.stream.specs.Machine.{handed, asked}
+use Rattle.stream.specs.Calls.{handed, asked}
 use Rattle.numbers.specs.Status.{heldByOther, carriedOut}
 use Rattle.answers.specs.Numbers.{tickingNumbers, deliveryNumbers, takingNumbers}
 use Rattle.answers.specs.declared.Ticking.the-variants as tickings

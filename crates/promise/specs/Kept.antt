@@ -9,8 +9,7 @@ use Rattle.octets.specs.Numbers.{Octets}
 use Rattle.octets.specs.Zeros.{zeros}
 use Rattle.area.specs.Area.{areaBytes, areaSound, undecidedOf}
 use Rattle.connection.specs.State.{connectionCount}
-use Rattle.stream.specs.Machine.{Held}
-use Rattle.stream.specs.Promise.{Bytes}
+use Rattle.stream.specs.Calls.{Held, Bytes}
 use Rattle.endpoint.specs.State.{freshState, recordObeys}
 use Rattle.endpoint.specs.Calls.{clearedArea}
 use Rattle.endpoint.specs.Deliver.{heldAt}

@@ -24,8 +24,7 @@ use Rattle.objects.specs.Methods.{methodNumber, lockMethod, firstMute}
 use Rattle.device.specs.State.{muteCount, freshOf}
 use Rattle.device.specs.Run as commands
 use Rattle.device.specs.declared.Device.{Device}
-use Rattle.stream.specs.Machine.{ask, handed, asked, Held, none-held}
-use Rattle.stream.specs.Promise.{AllBytes}
+use Rattle.stream.specs.Calls.{ask, handed, asked, Held, none-held, AllBytes}
 use Rattle.answers.specs.Numbers.{resettingNumbers}
 use Rattle.answers.specs.declared.Resetting.the-variants as resettings
 use Rattle.endpoint.specs.State.{freshState, recordObeys}

@@ -13,7 +13,7 @@ use Rattle.answers.specs.Numbers.{resettingNumbers}
 use Rattle.answers.specs.declared.Resetting.{Resetting}
 use Rattle.answers.specs.declared.Resetting.the-variants as resettings
 use Rattle.device.specs.declared.Device.{Device}
-use Rattle.stream.specs.Machine.{asked}
+use Rattle.stream.specs.Calls.{asked}
 use Rattle.promise.specs.Rulebook.{opening, closing, datagram, rule}
 use Rattle.promise.specs.Examples.{Row, row, twoOpen, afterMessage, replyRow}
 

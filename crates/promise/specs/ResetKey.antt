@@ -24,8 +24,7 @@ use Rattle.device.specs.Run.{statusOf}
 use Rattle.device.specs.Run as commands
 use Rattle.device.specs.Setters.{withMechanism}
 use Rattle.device.specs.declared.Device.{Device}
-use Rattle.stream.specs.Machine.{deliver, ask, handed, asked}
-use Rattle.stream.specs.Promise.{AllBytes}
+use Rattle.stream.specs.Calls.{deliver, ask, handed, asked, AllBytes}
 use Rattle.endpoint.specs.State.{stateOf}
 use Rattle.endpoint.specs.Outcome.{Outcome}
 use Rattle.endpoint.specs.declared.Record.{Record}

@@ -21,7 +21,7 @@ use Rattle.device.specs.declared.Ticking.{Ticking}
 use Rattle.device.specs.declared.Ticking.the-variants as ticks
 use Rattle.serve.specs.Sound.{soundOf}
 use Rattle.taking.specs.Dispatch.{dispatched}
-use Rattle.stream.specs.Machine.{Whole, handed, asked}
+use Rattle.stream.specs.Calls.{Whole, handed, asked}
 use Rattle.numbers.specs.Kind.{kindClosed, kindReset}
 use Rattle.answers.specs.Numbers.{openingNumbers, closingNumbers, tickingNumbers}
 use Rattle.answers.specs.Numbers.{deliveryNumbers, takingNumbers, resettingNumbers}

@@ -2,7 +2,7 @@
 use mathlib.Core.List.{[], _∷_}
 use lib.ListN.{length}
 use Rattle.device.specs.declared.Device.{Device}
-use Rattle.stream.specs.Machine.{deliver, ask, Held}
+use Rattle.stream.specs.Calls.{deliver, ask, Held}
 use Rattle.stream.specs.Scaffold.{Answer, more, denied, gave}
 use Rattle.answers.specs.Numbers.{deliveryNumbers}
 use Rattle.answers.specs.declared.Delivery.the-variants as deliveries

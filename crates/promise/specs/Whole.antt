@@ -10,8 +10,7 @@ use Rattle.split.specs.Exactly.{LastDecides}
 use Rattle.area.specs.Area.{areaBytes}
 use Rattle.device.specs.State.{freshOf}
 use Rattle.device.specs.declared.Device.{Device}
-use Rattle.stream.specs.Machine.{deliver, ask, handed, asked, Held, none-held, put, only, rules}
-use Rattle.stream.specs.Promise.{AllBytes}
+use Rattle.stream.specs.Calls.{deliver, ask, handed, asked, Held, none-held, put, only, rules, AllBytes}
 use Rattle.answers.specs.Numbers.{deliveryNumbers}
 use Rattle.answers.specs.declared.Delivery.the-variants as deliveries
 use Rattle.endpoint.specs.State.{freshState}

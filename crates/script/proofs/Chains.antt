@@ -14,8 +14,7 @@ use Rattle.device.specs.declared.Device.{Device}
 use Rattle.octets.specs.Zeros.{zeros}
 use Rattle.area.specs.Area.{areaBytes}
 use Rattle.device.specs.State.{freshOf}
-use Rattle.stream.specs.Machine.{deliver, ask, Held, none-held}
-use Rattle.stream.specs.Promise.{Bytes, AllBytes}
+use Rattle.stream.specs.Calls.{deliver, ask, Held, none-held, Bytes, AllBytes}
 use Rattle.stream.specs.Lent.{countsOf}
 use Rattle.endpoint.specs.State.{freshState}
 use Rattle.endpoint.specs.declared.Record.{Record}

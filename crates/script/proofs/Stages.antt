@@ -7,7 +7,7 @@ use native.Mathlib.Nat.{not-suc-le-zero}
 use borrow.Author.Tests.{le-leb, lt-leb, lt-ltb, le-ltb, ne-eqb}
 use lib.ListN.{length, getD, take, drop, length-drop}
 use Rattle.octets.specs.Numbers.{be32At}
-use Rattle.stream.specs.Machine.{deliver, ask}
+use Rattle.stream.specs.Calls.{deliver, ask}
 use Rattle.endpoint.specs.Outcome.{outcome}
 use Rattle.endpoint.specs.Calls.{openCall, closeCall, tickCall}
 use Rattle.endpoint.specs.Deliver.{deliverCall}

@@ -4,7 +4,7 @@ use endpoint::Record;
 ghost use mathlib.Core.Path.{_≡_};
 ghost use Prim.Native.Nat.{_≤_};
 ghost use lib.ListN.{length};
-ghost use Rattle.stream.specs.Machine.{deliver, ask};
+ghost use Rattle.stream.specs.Calls.{deliver, ask};
 ghost use Rattle.promise.specs.Rulebook.{opening, closing, ticking, taking, datagram};
 ghost use Rattle.script.specs.Chain.{ScriptsRun};
 ghost use Rattle.script.specs.Script.{stage, stageOf, sentBy, callBy, callIn, firstSize};

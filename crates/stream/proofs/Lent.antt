@@ -17,7 +17,7 @@ use Rattle.octets.specs.Zeros.{zeros}
 use Rattle.octets.proofs.Scans.{drop-zeros, length-zeros, zeros-append, all-zero-zeros}
 use Rattle.frame.specs.Decide.{decide, settled}
 use Rattle.area.specs.Area.{partBytes, areaBytes, partAt, partSound, partsSound, areaSound, undecidedOf, partCleared, clearedFrom, closedCleared, heldKept}
-use Rattle.stream.specs.Machine.{Held, none-held, put, only}
+use Rattle.stream.specs.Calls.{Held, none-held, put, only}
 use Rattle.stream.specs.Scaffold.{livesOf}
 use Rattle.stream.specs.Lent.{partHolding, flat, countsOf}
 use Rattle.stream.proofs.Stream.{put-elim}

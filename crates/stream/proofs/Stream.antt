@@ -10,8 +10,7 @@ use Rattle.octets.specs.Numbers.{Octets}
 use Rattle.octets.proofs.Digits.{octets-take}
 use Rattle.frame.specs.Decide.{decide, taken, settled}
 use Rattle.frame.proofs.Bytes.{nil-waits}
-use Rattle.stream.specs.Machine.{Call, deliver, ask, Whole, handed, asked, Held, put, only}
-use Rattle.stream.specs.Promise.{Bytes}
+use Rattle.stream.specs.Calls.{Call, deliver, ask, Whole, handed, asked, Held, put, only, Bytes}
 use Rattle.stream.specs.Scaffold.{Answer, whole, delivered, step, Apt, Good, Laws}
 use Rattle.stream.proofs.Bytes.{decides, octets-nil, octets-append}
 

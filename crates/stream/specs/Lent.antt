@@ -4,7 +4,7 @@ use mathlib.Core.List.{List, [], _∷_, _++_}
 use lib.ListN.{length}
 use Rattle.octets.specs.Zeros.{zeros}
 use Rattle.area.specs.Area.{partBytes}
-use Rattle.stream.specs.Machine.{Held}
+use Rattle.stream.specs.Calls.{Held}
 
 -- R4. A connection's part: its undecided bytes, and zeros behind them.
 unfoldable pub partHolding : List ℕ → List ℕ

@@ -1,4 +1,3 @@
-pub mod Machine
-pub mod Promise
+pub mod Calls
 pub mod Lent
 pub mod Scaffold

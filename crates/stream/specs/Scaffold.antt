@@ -6,7 +6,7 @@ use mathlib.Core.List.{List, [], _∷_, _++_}
 use lib.ListN.{length, take}
 use Rattle.octets.specs.Numbers.{Octets}
 use Rattle.frame.specs.Decide.{decide, taken, settled}
-use Rattle.stream.specs.Machine.{Call, deliver, ask, Whole, handed, asked, Held, put, only}
+use Rattle.stream.specs.Calls.{Call, deliver, ask, Whole, handed, asked, Held, put, only}
 
 -- The last byte of m decides it.
 pub record Decides (m : List ℕ) : Type 0 where

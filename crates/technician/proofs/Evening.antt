@@ -25,8 +25,7 @@ use Rattle.replies.specs.Bytes.{leastOutput}
 use Rattle.device.specs.State.{freshOf, openOf}
 use Rattle.device.specs.Time.{stepOf}
 use Rattle.device.specs.declared.Opening.the-variants as opens
-use Rattle.stream.specs.Machine.{deliver, ask}
-use Rattle.stream.specs.Promise.{AllBytes}
+use Rattle.stream.specs.Calls.{deliver, ask, AllBytes}
 use Rattle.answers.specs.Numbers.{openingNumbers}
 use Rattle.answers.specs.declared.Opening.the-variants as openings
 use Rattle.endpoint.specs.State.{stateOf, freshState, recordObeys}

@@ -34,7 +34,7 @@ use Rattle.serve.specs.Serve.{ranWith, ranFirst, lastOf}
 use Rattle.serve.specs.Sound.{Ruled, commandsOf, keptAlive, soundOf}
 use Rattle.delivery.specs.Intake.{messaged, deliveredBy, takenIn}
 use Rattle.taking.specs.Dispatch.{notifiedOf}
-use Rattle.stream.specs.Machine.{deliver, ask}
+use Rattle.stream.specs.Calls.{deliver, ask}
 use Rattle.endpoint.specs.State.{freshState, recordObeys, closedState}
 use Rattle.endpoint.specs.Outcome.{Outcome}
 use Rattle.endpoint.specs.Calls.{openedBy, openCall, closeCall, tickedBy, tickCall}

@@ -11,8 +11,7 @@ use Rattle.connection.specs.State.{closed, liveAt}
 use Rattle.connection.specs.Supervision.{connectionTicked}
 use Rattle.connection.specs.declared.Connection.{Connection}
 use Rattle.device.specs.declared.Device.{Device}
-use Rattle.stream.specs.Machine.{deliver, ask}
-use Rattle.stream.specs.Promise.{AllBytes}
+use Rattle.stream.specs.Calls.{deliver, ask, AllBytes}
 use Rattle.endpoint.specs.Calls.{tickCall}
 use Rattle.endpoint.specs.declared.Record.{Record}
 use Rattle.promise.specs.Rulebook.{opening, closing, ticking, taking, datagram}

@@ -20,7 +20,7 @@ use Rattle.connection.specs.State.{liveAt}
 use Rattle.numbers.specs.Refusal.{clockBack}
 use Rattle.device.specs.Time.{tickStep}
 use Rattle.device.proofs.Keeps.{rules-kept}
-use Rattle.stream.specs.Machine.{deliver, ask}
+use Rattle.stream.specs.Calls.{deliver, ask}
 use Rattle.endpoint.specs.State.{freshState, recordObeys}
 use Rattle.endpoint.specs.Outcome.{refused}
 use Rattle.endpoint.specs.Calls.{tickedBy, tickCall}

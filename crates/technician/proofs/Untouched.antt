@@ -41,7 +41,7 @@ use Rattle.device.specs.declared.Device.{Device}
 use Rattle.device.proofs.Closures.{closure-frees}
 use Rattle.device.proofs.Commands.{neither-fails}
 use Rattle.replies.specs.Bytes.{leastOutput}
-use Rattle.stream.specs.Machine.{deliver}
+use Rattle.stream.specs.Calls.{deliver}
 use Rattle.endpoint.specs.State.{recordObeys, closedState}
 use Rattle.endpoint.specs.Outcome.{Outcome}
 use Rattle.endpoint.specs.Calls.{openedBy, openCall, closeCall}

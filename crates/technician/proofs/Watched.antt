@@ -20,7 +20,7 @@ use Rattle.device.specs.declared.Ticking.{Ticking}
 use Rattle.device.specs.declared.Ticking.the-variants as ticks
 use Rattle.device.specs.Closure.{Stays, Passing}
 use Rattle.device.proofs.Closures.{closure-frees}
-use Rattle.stream.specs.Machine.{asked}
+use Rattle.stream.specs.Calls.{asked}
 use Rattle.endpoint.specs.State.{recordObeys}
 use Rattle.endpoint.specs.Calls.{tickedBy, tickCall}
 use Rattle.endpoint.specs.declared.Record.{Record}

@@ -10,7 +10,7 @@ use Rattle.answers.specs.Numbers.{openingNumbers}
 use Rattle.answers.specs.declared.Opening.the-variants as openings
 use Rattle.area.specs.Area.{areaBytes}
 use Rattle.replies.specs.Bytes.{leastOutput}
-use Rattle.stream.specs.Machine.{deliver, ask}
+use Rattle.stream.specs.Calls.{deliver, ask}
 use Rattle.endpoint.specs.Outcome.{Outcome}
 use Rattle.endpoint.specs.State.{freshState}
 use Rattle.endpoint.specs.Calls.{openCall}

@@ -14,7 +14,7 @@ use Rattle.answers.specs.declared.Delivery.the-variants as deliveries
 use Rattle.connection.specs.State.{liveAt}
 use Rattle.device.specs.State.{muteCount}
 use Rattle.replies.specs.Bytes.{leastOutput}
-use Rattle.stream.specs.Machine.{deliver, ask}
+use Rattle.stream.specs.Calls.{deliver, ask}
 use Rattle.endpoint.specs.Outcome.{Outcome}
 use Rattle.endpoint.specs.Deliver.{heldAt, deliverCall}
 use Rattle.endpoint.specs.declared.Record.{Record}

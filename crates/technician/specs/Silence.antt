@@ -10,7 +10,7 @@ use Rattle.mechanism.specs.Datagram.{resets}
 use Rattle.connection.specs.State.{closed, liveAt}
 use Rattle.replies.specs.Bytes.{leastOutput}
 use Rattle.device.specs.declared.Device.{Device}
-use Rattle.stream.specs.Machine.{deliver, ask}
+use Rattle.stream.specs.Calls.{deliver, ask}
 use Rattle.endpoint.specs.declared.Record.{Record}
 use Rattle.promise.specs.Rulebook.{opening, closing, ticking, taking, datagram}
 use Rattle.promise.specs.Calls.{HostCall, callOf}

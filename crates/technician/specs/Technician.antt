@@ -21,8 +21,7 @@ use Rattle.connection.specs.State.{closed, liveAt}
 use Rattle.replies.specs.Bytes.{leastOutput}
 use Rattle.device.specs.Time.{stepOf}
 use Rattle.device.specs.Closure.{Gone}
-use Rattle.stream.specs.Machine.{ask}
-use Rattle.stream.specs.Promise.{AllBytes}
+use Rattle.stream.specs.Calls.{ask, AllBytes}
 use Rattle.answers.specs.Numbers.{tickingNumbers}
 use Rattle.answers.specs.declared.Ticking.the-variants as tickings
 use Rattle.endpoint.specs.Outcome.{Outcome, refused}

@@ -40,8 +40,7 @@ use Rattle.serve.specs.Sound.{soundOf}
 use Rattle.taking.specs.Dispatch.{notifiedOf}
 use Rattle.taking.proofs.Takes.{index-meets}
 use Rattle.replies.specs.Bytes.{leastOutput}
-use Rattle.stream.specs.Machine.{deliver, ask, handed, asked, Held, none-held, put, only, rules}
-use Rattle.stream.specs.Promise.{AllBytes}
+use Rattle.stream.specs.Calls.{deliver, ask, handed, asked, Held, none-held, put, only, rules, AllBytes}
 use Rattle.stream.proofs.Lent.{Small, put-same, put-other, getD-counted, undecided-flat}
 use Rattle.answers.specs.Numbers.{openingNumbers}
 use Rattle.answers.specs.declared.Opening.the-variants as openings

@@ -12,8 +12,7 @@ use Rattle.split.specs.Exactly.{AllSound}
 use Rattle.area.specs.Area.{areaBytes}
 use Rattle.device.specs.State.{freshOf}
 use Rattle.device.specs.declared.Device.{Device}
-use Rattle.stream.specs.Machine.{deliver, ask, handed, asked, Held, none-held}
-use Rattle.stream.specs.Promise.{AllBytes}
+use Rattle.stream.specs.Calls.{deliver, ask, handed, asked, Held, none-held, AllBytes}
 use Rattle.answers.specs.Numbers.{openingNumbers}
 use Rattle.answers.specs.declared.Opening.the-variants as openings
 use Rattle.endpoint.specs.State.{freshState}

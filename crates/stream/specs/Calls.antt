@@ -3,6 +3,7 @@ use Prim.Native.Nat.{ℕ}
 use mathlib.Core.Bool.{Bool, cond}
 use mathlib.Core.List.{List, [], _∷_}
 use lib.Dec.{eqb}
+use Rattle.octets.specs.Numbers.{Octets}
 
 -- ---- calls. Ask are the calls that are no delivery, Room is what a delivery is lent besides its piece
 
@@ -15,6 +16,17 @@ pub data Call (Ask Room : Type 0) : Type 0 where
 pub data Whole (Ask Room : Type 0) : Type 0 where
   handed : ℕ → List ℕ → Room → Whole Ask Room
   asked : Ask → Whole Ask Room
+
+module _ {Ask Room : Type 0} where
+  -- R81. The piece of a call is made of bytes.
+  abbrev pub Bytes : Call Ask Room → Type 0
+  Bytes (deliver c p x) = Octets p
+  Bytes (ask a) = Unit {0}
+
+  -- R81. Every piece is made of bytes.
+  unfoldable pub AllBytes : List (Call Ask Room) → Type 0
+  AllBytes [] = Unit {0}
+  AllBytes (c ∷ cs) = Bytes c × AllBytes cs
 
 -- ---- undecided bytes, by connection
 
