@@ -13,4 +13,5 @@ pub mod reset;
 pub mod reset_counts;
 pub mod session;
 pub mod traffic;
+pub mod verdict;
 pub mod walk;

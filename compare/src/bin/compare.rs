@@ -7,6 +7,7 @@ use compare::engine::Engine;
 use compare::harness::counts::{Counts, FLOOR};
 use compare::harness::gate;
 use compare::harness::session::Checked;
+use compare::harness::verdict;
 use compare::second::Second;
 use std::process::ExitCode;
 use std::time::Instant;
@@ -40,22 +41,9 @@ fn main() -> ExitCode {
 
 /// Prints what came; a run of the gate also has to reach the floor.
 fn end(result: Checked<Counts>, whole: bool, start: Instant) -> ExitCode {
-    let counts = match result {
-        Ok(counts) => counts,
-        Err(difference) => {
-            println!("{difference}");
-            return ExitCode::FAILURE;
-        }
-    };
-    print!("{}", counts.table());
-    println!("no difference, {:.1} s", start.elapsed().as_secs_f64());
-    let failures = if whole { counts.failures() } else { Vec::new() };
-    for failure in &failures {
-        println!("FAILED, floor {FLOOR}: {failure}");
-    }
-    if failures.is_empty() {
-        ExitCode::SUCCESS
-    } else {
-        ExitCode::FAILURE
-    }
+    let came = result.map(|counts| {
+        let failures = if whole { counts.failures() } else { Vec::new() };
+        (counts.table(), failures)
+    });
+    verdict::tell(came, FLOOR, start)
 }

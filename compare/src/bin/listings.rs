@@ -2,6 +2,7 @@
 //! `listings PROGRAM ARGUMENT ..`, a process for each input.
 
 use compare::harness::listings::{self, FLOOR, Feed, Input};
+use compare::harness::verdict;
 use std::fs::File;
 use std::io::{self, Read};
 use std::os::fd::OwnedFd;
@@ -18,24 +19,9 @@ fn main() -> ExitCode {
     }
     let start = Instant::now();
     let threads = std::thread::available_parallelism().map_or(1, |number| number.get() as u64);
-    let counts = match listings::all(&|input: &Input| run(&command, input), threads) {
-        Ok(counts) => counts,
-        Err(difference) => {
-            println!("{difference}");
-            return ExitCode::FAILURE;
-        }
-    };
-    print!("{}", counts.table());
-    println!("no difference, {:.1} s", start.elapsed().as_secs_f64());
-    let failures = counts.failures();
-    for failure in &failures {
-        println!("FAILED, floor {FLOOR}: {failure}");
-    }
-    if failures.is_empty() {
-        ExitCode::SUCCESS
-    } else {
-        ExitCode::FAILURE
-    }
+    let came = listings::all(&|input: &Input| run(&command, input), threads)
+        .map(|counts| (counts.table(), counts.failures()));
+    verdict::tell(came, FLOOR, start)
 }
 
 /// What the program writes for the input.

@@ -11,6 +11,7 @@ both o b r s x y p q = (p .0 ∙ sym (q .0), p .1 ∙ sym (q .1))
 pub handed-tell : HandedTell
 handed-tell =
     record {
+      fresh = λ reading r s p q. p ∙ sym q;
       cleared = λ area. both _ _;
       opened = λ state r s p q. p ∙ sym q;
       closed = λ state area n. both _ _;
@@ -18,6 +19,9 @@ handed-tell =
       delivered = λ state area n piece output r s x y v w p q. (p .0 ∙ sym (q .0), p .1 ∙ sym (q .1), p .2 ∙ sym (q .2));
       taken = λ state output. both _ _;
       reset = λ state area datagram. both _ _;
+      read = λ bytes r s p q. p ∙ sym q;
+      entry = λ bytes index r s p q. p ∙ sym q;
+      part = λ bytes index r s p q. p ∙ sym q;
       started = λ buffer kind entry. both _ _;
       appended = λ buffer kind entry. both _ _;
       kept = λ buffer form value. both _ _;

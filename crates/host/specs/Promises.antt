@@ -2,6 +2,9 @@
 use Prim.Native.Nat.{ℕ}
 use mathlib.Core.Path.{_≡_}
 use mathlib.Core.List.{List}
+use Rattle.reader.specs.Read.{readOf}
+use Rattle.reader.specs.Entry.{entryOf}
+use Rattle.endpoint.specs.State.{freshState}
 use Rattle.endpoint.specs.Calls.{clearAnswer, clearedArea, openCall, closeCall, tickCall}
 use Rattle.endpoint.specs.Deliver.{deliverCall}
 use Rattle.endpoint.specs.Take.{takeCall}
@@ -10,7 +13,7 @@ use Rattle.endpoint.specs.declared.Record.{Record}
 use Rattle.reset.specs.Datagram.{datagramCall}
 use Rattle.writer.specs.Write.{startOf, appendOf, keepAliveOf}
 use Rattle.host.specs.Answers.{clearedOf, openedOf, closedOf, tickedOf, deliveredOf, takenOf, resetOf}
-use Rattle.host.specs.Messages.{writtenOf}
+use Rattle.host.specs.Messages.{readingOf, entryFrom, partFrom, writtenOf}
 use Rattle.host.specs.declared.Cleared.{Cleared}
 use Rattle.host.specs.declared.Opened.{Opened}
 use Rattle.host.specs.declared.Closed.{Closed}
@@ -18,7 +21,14 @@ use Rattle.host.specs.declared.Ticked.{Ticked}
 use Rattle.host.specs.declared.Delivered.{Delivered}
 use Rattle.host.specs.declared.Taken.{Taken}
 use Rattle.host.specs.declared.Reset.{Reset}
+use Rattle.host.specs.declared.messages.Reading.{Reading}
+use Rattle.host.specs.declared.messages.Entry.{Entry}
+use Rattle.host.specs.declared.messages.Part.{Part}
 use Rattle.host.specs.declared.messages.Written.{Written}
+
+-- R57, R69. Fresh.
+abbrev pub FreshHands : ℕ → Record → Type 0
+FreshHands reading r = r ≡ freshState reading
 
 -- R67, R69. Clear.
 abbrev pub ClearHands : List ℕ → Cleared → List ℕ → Type 0
@@ -51,6 +61,18 @@ abbrev pub DatagramHands : Record → List ℕ → List ℕ → Reset → List �
 DatagramHands state area datagram r left =
     (r ≡ resetOf (datagramCall state area datagram)) × (left ≡ datagramCall state area datagram .area)
 
+-- R19, R69. Read a message.
+abbrev pub ReadingHands : List ℕ → Reading → Type 0
+ReadingHands bytes r = r ≡ readingOf (readOf bytes)
+
+-- R20, R69. Read an entry.
+abbrev pub EntryHands : List ℕ → ℕ → Entry → Type 0
+EntryHands bytes index r = r ≡ entryFrom (entryOf bytes index)
+
+-- R21, R22, R69. An entry's part.
+abbrev pub PartHands : List ℕ → ℕ → Part → Type 0
+PartHands bytes index r = r ≡ partFrom bytes index
+
 -- R25, R69. Start.
 abbrev pub StartHands : List ℕ → ℕ → List ℕ → Written → List ℕ → Type 0
 StartHands buffer kind entry r left = (r ≡ writtenOf (startOf buffer kind entry .answer)) × (left ≡ startOf buffer kind entry .buffer)
@@ -66,6 +88,7 @@ KeepAliveHands buffer form value r left =
 
 -- Theorem. Each function's promise, as its contract states it, allows one struct, and leaves the bytes lent in one way.
 pub record HandedTell : Type 0 where
+  pub fresh : (reading : ℕ) → AllowsOne Record (FreshHands reading)
   pub cleared : (area : List ℕ) → AllowsOneLent Cleared (ClearHands area)
   pub opened : (state : Record) → AllowsOne Opened (OpenHands state)
   pub closed : (state : Record) (area : List ℕ) (n : ℕ) → AllowsOneLent Closed (CloseHands state area n)
@@ -74,6 +97,9 @@ pub record HandedTell : Type 0 where
       → AllowsOneLentTwo Delivered (DeliverHands state area n piece output)
   pub taken : (state : Record) (output : List ℕ) → AllowsOneLent Taken (TakeHands state output)
   pub reset : (state : Record) (area datagram : List ℕ) → AllowsOneLent Reset (DatagramHands state area datagram)
+  pub read : (bytes : List ℕ) → AllowsOne Reading (ReadingHands bytes)
+  pub entry : (bytes : List ℕ) (index : ℕ) → AllowsOne Entry (EntryHands bytes index)
+  pub part : (bytes : List ℕ) (index : ℕ) → AllowsOne Part (PartHands bytes index)
   pub started : (buffer : List ℕ) (kind : ℕ) (entry : List ℕ) → AllowsOneLent Written (StartHands buffer kind entry)
   pub appended : (buffer : List ℕ) (kind : ℕ) (entry : List ℕ) → AllowsOneLent Written (AppendHands buffer kind entry)
   pub kept : (buffer : List ℕ) (form value : ℕ) → AllowsOneLent Written (KeepAliveHands buffer form value)

@@ -4,10 +4,9 @@ use endpoint::Record;
 ghost use mathlib.Core.Path.{_≡_};
 ghost use Prim.Native.Nat.{_<_};
 ghost use Rattle.numbers.specs.Kind.{kindClosed};
-ghost use Rattle.endpoint.specs.State.{freshState};
 ghost use Rattle.host.specs.Answers.{faultIn, lengthIn};
-ghost use Rattle.host.specs.Promises.{ClearHands, OpenHands, CloseHands, TickHands, DeliverHands, TakeHands, DatagramHands};
-ghost use Rattle.host.specs.Promises.{HandedTell};
+ghost use Rattle.host.specs.Promises.{FreshHands, ClearHands, OpenHands, CloseHands, TickHands, DeliverHands};
+ghost use Rattle.host.specs.Promises.{TakeHands, DatagramHands, HandedTell};
 
 pub mod messages;
 
@@ -88,7 +87,7 @@ fn length_in(told: Numbers) -> usize
 
 #[no_mangle]
 pub extern "C" fn melorwyth_fresh(reading: u32) -> Record
-    ensures { λ r. ⌜ r ≡ freshState reading ⌝ }
+    ensures { λ r. ⌜ FreshHands reading r ⌝ }
 {
     Record::fresh(reading)
 }

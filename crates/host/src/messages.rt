@@ -6,11 +6,9 @@ ghost use mathlib.Core.Path.{_≡_};
 ghost use mathlib.Core.List.{_∷_};
 ghost use Rattle.numbers.specs.Refusal.{notRefused};
 ghost use Rattle.reader.specs.Numbers.{messageNumbers, readingNumbers, commandNumbers, notificationNumbers, entryNumbers};
-ghost use Rattle.reader.specs.Read.{readOf};
-ghost use Rattle.reader.specs.Entry.{entryOf};
 ghost use Rattle.writer.specs.Numbers.{writtenNumbers};
-ghost use Rattle.host.specs.Messages.{readingWith, readingOf, plainWith, entryFrom, partFrom, writtenWith, writtenOf};
-ghost use Rattle.host.specs.Promises.{StartHands, AppendHands, KeepAliveHands};
+ghost use Rattle.host.specs.Messages.{readingWith, readingOf, plainWith, entryFrom, writtenWith, writtenOf};
+ghost use Rattle.host.specs.Promises.{ReadingHands, EntryHands, PartHands, StartHands, AppendHands, KeepAliveHands};
 
 #[repr(C)]
 pub struct Reading {
@@ -114,7 +112,7 @@ fn of_reading(answer: reader::Reading) -> Reading
 
 #[no_mangle]
 pub extern "C" fn melorwyth_read_message(bytes: &[u8]) -> Reading
-    ensures { λ r. ⌜ r ≡ readingOf (readOf (now (bytes .entry))) ⌝ }
+    ensures { λ r. ⌜ ReadingHands (now (bytes .entry)) r ⌝ }
 {
     of_reading(reader::read_message(bytes))
 }
@@ -205,7 +203,7 @@ fn of_entry(answer: reader::Entry) -> Entry
 
 #[no_mangle]
 pub extern "C" fn melorwyth_read_entry(bytes: &[u8], index: usize) -> Entry
-    ensures { λ r. ⌜ r ≡ entryFrom (entryOf (now (bytes .entry)) index) ⌝ }
+    ensures { λ r. ⌜ EntryHands (now (bytes .entry)) index r ⌝ }
 {
     of_entry(reader::read_entry(bytes, index))
 }
@@ -213,7 +211,7 @@ pub extern "C" fn melorwyth_read_entry(bytes: &[u8], index: usize) -> Entry
 // Where the entry's part stands: `PartStands` of the reader says that the bytes there are the part.
 #[no_mangle]
 pub extern "C" fn melorwyth_entry_part(bytes: &[u8], index: usize) -> Part
-    ensures { λ r. ⌜ r ≡ partFrom (now (bytes .entry)) index ⌝ }
+    ensures { λ r. ⌜ PartHands (now (bytes .entry)) index r ⌝ }
 {
     let part = reader::entry_part(bytes, index);
     Part {
