@@ -1,11 +1,11 @@
 -- A connection's tick and heartbeat, case by case. Assumes nothing.
 use Prim.Native.Nat.{ℕ, _+_, _-_, _*_, _/_, _%_, _^_, _<_, _≤_}
-use mathlib.Core.Path.{_≡_, refl, sym, ap}
+use mathlib.Core.Path.{_≡_, refl, sym, ap, _∙_}
 use mathlib.Core.Logic.{_⊎_, ⊎-elim}
 use mathlib.Core.Bool.{Bool, true, false, not, _&&_, _||_}
 use mathlib.Core.List.{List}
 use native.Mathlib.Omega.{arith}
-use borrow.Author.Tests.{ltb-true, ltb-false, lt-ltb, le-ltb, le-leb, lt-leb, eq-eqb, ne-eqb, leb-true, leb-false, eqb-true}
+use borrow.Author.Tests.{ltb-true, ltb-false, lt-ltb, le-ltb, le-leb, lt-leb, eq-eqb, ne-eqb, leb-true, leb-false, eqb-true, not-true, not-false}
 use lib.Dec.{leb, ltb, eqb}
 use lib.ListN.{length, getD, List·getD-eq-default}
 use Rattle.laws.specs.Lists.{all}
@@ -131,6 +131,24 @@ module _ (h : Heartbeat) (c : Connection) (b : ℕ) (q : b ≡ beatOf h) where
   pub beat-some : (b ≡ 0 → ⊥) → (f : ℕ) → f ≡ formOf h → supervised c f b ≡ setBeat h c
   unfolding setBeat
   beat-some z f e = rw (← q, ne-eqb b 0 z, e)
+
+-- ---- the rules, by the way that a connection takes through their tests
+or-none : (a : Bool) → a ≡ (a || false)
+or-none true = refl
+or-none false = refl
+
+module _ (c : Connection) (b : Bool) where
+  pub obeys-shut : not (c .live) ≡ true → b ≡ isClosed c → b ≡ connectionObeys c
+  unfolding connectionObeys
+  obeys-shut l q = q ∙ rw (not-true (c .live) l) (or-none _)
+
+  pub obeys-timed : not (c .live) ≡ false → 0 < c .beat → b ≡ isTimed c → b ≡ connectionObeys c
+  unfolding connectionObeys isClosed isIdle
+  obeys-timed l h q = q ∙ rw (not-false (c .live) l, ne-eqb (c .beat) 0 (λ e. omega arith))
+
+  pub obeys-idle : not (c .live) ≡ false → c .beat ≤ 0 → b ≡ isIdle c → b ≡ connectionObeys c
+  unfolding connectionObeys isClosed isTimed
+  obeys-idle l h q = q ∙ rw (not-false (c .live) l, eq-eqb (c .beat) 0 (omega arith)) (or-none _)
 
 -- what the rules say of H
 pub record Bounded (c : Connection) : Type 0 where

@@ -90,10 +90,13 @@ impl Connection {
     pub fn obeys(self) -> bool
         ensures { λ r. ⌜ r ≡ connectionObeys self ⌝ }
     {
-        let closed = self.is_closed();
-        let idle = self.is_idle();
-        let timed = self.is_timed();
-        closed | (self.live & (idle | timed))
+        if !self.live {
+            return self.is_closed();
+        }
+        if self.beat > 0 {
+            return self.is_timed();
+        }
+        self.is_idle()
     }
 
     pub fn fits(self, step: u32) -> bool

@@ -10,7 +10,7 @@ use lib.ListN.{length, getD}
 use Rattle.laws.proofs.Conds.{cond-right, and-left, and-right}
 use Rattle.laws.proofs.Tables.{or-neither}
 use Rattle.mechanism.specs.Arguments.{isMisfit}
-use Rattle.objects.specs.Methods.{isMute, resetKeyMethod, placeOf, isObject, hasMethod}
+use Rattle.objects.specs.Methods.{isMute, resetKeyMethod, placeOf, isObject, isTelling, isLocking, isMuting, isSubscribing, hasMethod}
 use Rattle.objects.specs.Answers.{classOf, identificationOf, answerWith}
 use Rattle.objects.specs.Tests.{isForbidden, countOf, lengthOf, isLengthBad, isPairBad, isMalformed, firstStatus}
 use Rattle.objects.specs.Scaffold.{Allowed}
@@ -28,6 +28,38 @@ mute-at target h =
 pub place-is : (target : ℕ) → isMute target ≡ true → (target - 4097 ≡ placeOf target) × (target - 4097 < 8)
 unfolding placeOf
 place-is target h = (refl, omega (arith, mute-at target h))
+
+-- ---- which object has which method
+only-muting : (x y z : Bool) → x ≡ ((x && true) || (y && false) || (z && false))
+only-muting true y z = refl
+only-muting false true true = refl
+only-muting false true false = refl
+only-muting false false true = refl
+only-muting false false false = refl
+
+only-managing : (x y z : Bool) → (y || z) ≡ ((x && false) || y || z)
+only-managing true y z = refl
+only-managing false y z = refl
+
+module _ (target m : ℕ) (a b : Bool) (p : a ≡ isTelling m) (q : b ≡ isLocking m) where
+  pub has-common : (a || b) ≡ true → true ≡ hasMethod target m
+  unfolding hasMethod
+  has-common h = rw (← p, ← q, h)
+
+  pub has-muting : (a || b) ≡ false → (c : Bool) → c ≡ isMute target → c ≡ true → isMuting m ≡ hasMethod target m
+  unfolding hasMethod
+  has-muting h c r t =
+      let e = or-neither a b h in
+      let w = mute-at target (sym r ∙ t) in
+      rw (← p, ← q, e .0, e .1, ← r, t, ne-eqb target 4 (λ z. omega (arith, w)), ne-eqb target 1 (λ z. omega (arith, w)))
+      (only-muting (isMuting m) (isSubscribing m) (eqb m resetKeyMethod))
+
+  pub has-managing : (a || b) ≡ false → (c : Bool) → c ≡ isMute target → c ≡ false
+      → ((isSubscribing m && eqb target 4) || (eqb m resetKeyMethod && eqb target 1)) ≡ hasMethod target m
+  unfolding hasMethod
+  has-managing h c r t =
+      let e = or-neither a b h in
+      rw (← p, ← q, e .0, e .1, ← r, t) (only-managing (isMuting m) _ _)
 
 -- ---- the shape of the arguments
 pub add-long : (m l : ℕ) → m ≡ 196609 → l ≡ lengthOf m → l ≡ 23

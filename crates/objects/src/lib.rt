@@ -110,11 +110,13 @@ pub fn has_method(target: u32, m: u32) -> bool
 {
     let telling = is_telling(m);
     let locking = is_locking(m);
-    let mute = is_mute(target);
-    telling
-        | locking
-        | (((m == GET) | (m == SET)) & mute)
-        | (((m == ADD) | (m == REMOVE)) & (target == SUBSCRIPTION_MANAGER))
+    if telling | locking {
+        return true;
+    }
+    if is_mute(target) {
+        return (m == GET) | (m == SET);
+    }
+    (((m == ADD) | (m == REMOVE)) & (target == SUBSCRIPTION_MANAGER))
         | ((m == RESET_KEY) & (target == DEVICE_MANAGER))
 }
 
