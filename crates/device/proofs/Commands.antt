@@ -24,7 +24,7 @@ use Rattle.holders.specs.Holders.{ownerOf, isOther}
 use Rattle.device.specs.Setters.{withSubscriptions, withMutes, withHolders, withMechanism}
 use Rattle.device.specs.Run.{holderAt, muteAt, isHeldByOther, isSubscribed, isOutOfTurn, isFull, laterStatus, firstFailing, statusOf, mutedOf, doneOf, answerOf, unchanged, ranBy, runOf}
 use Rattle.device.specs.declared.Device.{Device}
-use Rattle.device.specs.declared.Ran.{Ran}
+use Rattle.device.specs.Run.{Ran}
 
 -- ---- a status that stops nothing
 pub neither-fails : (first later : ℕ) → firstFailing first later ≡ 0 → (first ≡ 0) × (later ≡ 0)

@@ -48,7 +48,7 @@ use Rattle.device.specs.declared.Opening.the-variants.{Number, Full}
 use Rattle.device.specs.declared.Ticked.{Ticked}
 use Rattle.device.specs.declared.Ticking.{Ticking}
 use Rattle.device.specs.declared.Ticking.the-variants.{Closed, ClockBack, Overrun}
-use Rattle.device.specs.declared.Ran.{Ran}
+use Rattle.device.specs.Run.{Ran}
 use Rattle.device.proofs.Commands.{neither-fails}
 
 -- ---- the rules by name

@@ -20,7 +20,7 @@ use Rattle.objects.specs.declared.Answer.{Answer}
 use Rattle.objects.proofs.Shapes.{mute-at, formed-are, first-allowed}
 use Rattle.device.specs.Run.{isHeldByOther, isOutOfTurn, isFull, laterStatus, statusOf, doneOf, answerOf, unchanged, runOf}
 use Rattle.device.specs.declared.Device.{Device}
-use Rattle.device.specs.declared.Ran.{Ran}
+use Rattle.device.specs.Run.{Ran}
 use Rattle.device.proofs.Commands.{neither-fails, ran-failed, ran-done, get-status}
 
 -- ---- lengths

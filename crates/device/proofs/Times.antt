@@ -13,12 +13,12 @@ use Rattle.heartbeat.specs.declared.Heartbeat.{Heartbeat}
 use Rattle.connection.specs.State.{closed, opened, liveAt, isNotOpen, lowestFree}
 use Rattle.connection.specs.Supervision.{fitsStep, closesAt, connectionTicked, heardOf, sentOf, beatingOf}
 use Rattle.connection.specs.declared.Connection.{Connection}
-use Rattle.connection.proofs.Times.{live-below, live-in, live-out}
-use Rattle.subscription.specs.State.{free, toldOf, sweptOf}
+use Rattle.connection.proofs.Times.{live-below}
+use Rattle.subscription.specs.State.{sweptOf}
 use Rattle.subscription.specs.declared.Subscription.{Subscription}
 use Rattle.holders.specs.Holders.{sweptHolder}
 use Rattle.device.specs.Setters.{withConnections, withSubscriptions, withHolders}
-use Rattle.device.specs.State.{openOf, sweepOf, closeOf, closingOf, atConnection, heardAt, sentAt, toldAt, beatingAt}
+use Rattle.device.specs.State.{openOf, sweepOf, closeOf, closingOf, atConnection, heardAt, sentAt, beatingAt}
 use Rattle.device.specs.Time.{stepOf, advanced, tickStep, tickOf}
 use Rattle.device.specs.declared.Device.{Device}
 use Rattle.device.specs.declared.Opened.{Opened}
@@ -30,78 +30,51 @@ use Rattle.device.specs.declared.Ticking.the-variants as ticks
 use Rattle.device.specs.declared.Ticking.the-variants.{ClockBack, Overrun}
 
 -- ---- one connection changed
-at-out : (f : Connection → Connection) (d : Device) (n : ℕ) → length (d .connections) ≡ 8 → 8 ≤ n → d ≡ atConnection f d n
-at-out f d n e h =
-    let k : length (d .connections) ≤ n = omega arith in
-    ap (withConnections d) (sym (set-out (d .connections) n (f (getD (d .connections) n closed)) k))
+pub shut-out : (cs : List Connection) (n : ℕ) → length cs ≡ 8 → 8 ≤ n → cs ≡ set cs n closed
+shut-out cs n e h =
+    let k : length cs ≤ n = omega arith in
+    sym (set-out cs n closed k)
 
 at-in : (f : Connection → Connection) (d : Device) (n : ℕ) (x a : Connection) → n < length (d .connections) → x ≡ f (getD (d .connections) n a) → withConnections d (set (d .connections) n x) ≡ atConnection f d n
 at-in f d n x a h e =
     ap (λ (y : Connection). withConnections d (set (d .connections) n y)) (e ∙ ap f (getD-any (d .connections) n a closed h))
 
-pub live-place : (cs : List Connection) (n : ℕ) (b : Bool) → b ≡ liveAt cs n → not b ≡ false → length cs ≡ 8 → n < 8
-live-place cs n b q t e = omega (arith, live-below cs n (sym q ∙ not-false b t))
+pub live-place : (cs : List Connection) (n : ℕ) (b : Bool) → b ≡ liveAt cs n → b ≡ true → length cs ≡ 8 → n < 8
+live-place cs n b q t e = omega (arith, live-below cs n (sym q ∙ t))
 
 module _ (d : Device) (n : ℕ) where
-  pub heard-out : length (d .connections) ≡ 8 → 8 ≤ n → d ≡ heardAt d n
+  pub heard-in : (x a : Connection) → length (d .connections) ≡ 8 → n < 8 → x ≡ heardOf (getD (d .connections) n a) → (r : Device) → r ≡ withConnections d (set (d .connections) n x) → r ≡ heardAt d n
   unfolding heardAt
-  heard-out e h = at-out heardOf d n e h
+  heard-in x a l h e r q = q ∙ at-in heardOf d n x a (omega arith) e
 
-  pub heard-in : (x a : Connection) → length (d .connections) ≡ 8 → n < 8 → x ≡ heardOf (getD (d .connections) n a) → withConnections d (set (d .connections) n x) ≡ heardAt d n
-  unfolding heardAt
-  heard-in x a l h e = at-in heardOf d n x a (omega arith) e
-
-  pub sent-out : length (d .connections) ≡ 8 → 8 ≤ n → d ≡ sentAt d n
+  pub sent-in : (x a : Connection) → length (d .connections) ≡ 8 → n < 8 → x ≡ sentOf (getD (d .connections) n a) → (r : Device) → r ≡ withConnections d (set (d .connections) n x) → r ≡ sentAt d n
   unfolding sentAt
-  sent-out e h = at-out sentOf d n e h
+  sent-in x a l h e r q = q ∙ at-in sentOf d n x a (omega arith) e
 
-  pub sent-in : (x a : Connection) → length (d .connections) ≡ 8 → n < 8 → x ≡ sentOf (getD (d .connections) n a) → withConnections d (set (d .connections) n x) ≡ sentAt d n
-  unfolding sentAt
-  sent-in x a l h e = at-in sentOf d n x a (omega arith) e
-
-  module _ (b : Bool) (q : b ≡ liveAt (d .connections) n) where
-    pub beating-not : (h : Heartbeat) → not b ≡ true → d ≡ beatingAt d n h
+  module _ (b : Bool) (q : b ≡ liveAt (d .connections) n) (h : Heartbeat) (cs : List Connection) (r : Device) (w : r ≡ withConnections d cs) where
+    pub beating-not : b ≡ false → cs ≡ d .connections → r ≡ beatingAt d n h
     unfolding beatingAt
-    beating-not h t = rw (← q, not-true b t)
+    beating-not t k = rw (← q, t) (w ∙ ap (withConnections d) k)
 
-    pub beating-in : (h : Heartbeat) → not b ≡ false → (x a : Connection) → x ≡ beatingOf h (getD (d .connections) n a) → withConnections d (set (d .connections) n x) ≡ beatingAt d n h
+    pub beating-in : b ≡ true → (x a : Connection) → x ≡ beatingOf h (getD (d .connections) n a) → cs ≡ set (d .connections) n x → r ≡ beatingAt d n h
     unfolding beatingAt
-    beating-in h t x a e =
-        rw (← q, not-false b t) (at-in (beatingOf h) d n x a (live-below (d .connections) n (sym q ∙ not-false b t)) e)
+    beating-in t x a e k =
+        rw (← q, t) (w ∙ ap (withConnections d) k ∙ at-in (beatingOf h) d n x a (live-below (d .connections) n (sym q ∙ t)) e)
 
-  pub close-out : length (d .connections) ≡ 8 → 8 ≤ n → (r : Device) → r ≡ sweepOf d → _≡_ {A = Closed} (record { device = r; answer = NotOpen }) (closingOf d n)
-  unfolding closingOf closeOf
-  close-out e h r q =
-      let k : length (d .connections) ≤ n = omega arith in
-      rw (q, ← live-out (d .connections) n e h, set-out (d .connections) n closed k)
-
-  module _ (a : Connection) (l : length (d .connections) ≡ 8) (h : n < 8) (r : Device) (q : r ≡ sweepOf (withConnections d (set (d .connections) n closed))) where
-    pub close-not : not (getD (d .connections) n a .live) ≡ true → _≡_ {A = Closed} (record { device = r; answer = NotOpen }) (closingOf d n)
+  -- whether it was open is asked before, and the closure is the same either way
+  module _ (b : Bool) (q : b ≡ liveAt (d .connections) n) (cs : List Connection) (w : cs ≡ set (d .connections) n closed) (r : Device) (e : r ≡ sweepOf (withConnections d cs)) where
+    pub close-not : b ≡ false → _≡_ {A = Closed} (record { device = r; answer = NotOpen }) (closingOf d n)
     unfolding closingOf closeOf
-    close-not t = rw (q, ← live-in (d .connections) n a (omega arith), not-true (getD (d .connections) n a .live) t)
+    close-not t = rw (e, w, ← q, t)
 
-    pub close-done : not (getD (d .connections) n a .live) ≡ false → _≡_ {A = Closed} (record { device = r; answer = Done }) (closingOf d n)
+    pub close-done : b ≡ true → _≡_ {A = Closed} (record { device = r; answer = Done }) (closingOf d n)
     unfolding closingOf closeOf
-    close-done t = rw (q, ← live-in (d .connections) n a (omega arith), not-false (getD (d .connections) n a .live) t)
+    close-done t = rw (e, w, ← q, t)
 
 -- what a close hands back
 pub close-device : (d : Device) (n : ℕ) (x : Closed) → x ≡ closingOf d n → x .device ≡ closeOf d n
 unfolding closingOf
 close-device d n x e = ap (λ (y : Closed). y .device) e
-
--- ---- one entry changed
-module _ (d : Device) (at : ℕ) (l : length (d .subscriptions) ≡ 32) where
-  pub told-out : 32 ≤ at → d ≡ toldAt d at
-  unfolding toldAt
-  told-out h =
-      let k : length (d .subscriptions) ≤ at = omega arith in
-      ap (withSubscriptions d) (sym (set-out (d .subscriptions) at (toldOf (getD (d .subscriptions) at free)) k))
-
-  pub told-in : at < 32 → (x a : Subscription) → x ≡ toldOf (getD (d .subscriptions) at a) → withSubscriptions d (set (d .subscriptions) at x) ≡ toldAt d at
-  unfolding toldAt
-  told-in h x a e =
-      let k : at < length (d .subscriptions) = omega arith in
-      ap (λ (y : Subscription). withSubscriptions d (set (d .subscriptions) at y)) (e ∙ ap toldOf (getD-any (d .subscriptions) at a free k))
 
 -- ---- opening
 module _ (d : Device) (n : ℕ) (q : n ≡ lowestFree (d .connections)) (e : length (d .connections) ≡ 8) where
@@ -114,9 +87,9 @@ module _ (d : Device) (n : ℕ) (q : n ≡ lowestFree (d .connections)) (e : len
   open-done h = rw (any-index isNotOpen (d .connections), ← q, e, lt-ltb n 8 h)
 
 -- ---- sweeping
-pub swept-all : (d : Device) (ss : List Subscription) (hs : List ℕ) → ss ≡ map (sweptOf (d .connections)) (d .subscriptions) → hs ≡ map (sweptHolder (d .connections)) (d .holders) → withHolders (withSubscriptions d ss) hs ≡ sweepOf d
+pub swept-all : (d : Device) (cs : List Connection) (ss : List Subscription) (hs : List ℕ) → ss ≡ map (sweptOf cs) (d .subscriptions) → hs ≡ map (sweptHolder cs) (d .holders) → withHolders (withSubscriptions (withConnections d cs) ss) hs ≡ sweepOf (withConnections d cs)
 unfolding sweepOf
-swept-all d ss hs p q = rw (p, q)
+swept-all d cs ss hs p q = rw (p, q)
 
 -- ---- a tick
 pub fit-known : (step : ℕ) (cs : List Connection) (b : Bool) → b ≡ all (fitsStep step) cs → not b ≡ false → all (fitsStep step) cs ≡ true

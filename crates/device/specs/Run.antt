@@ -16,7 +16,11 @@ use Rattle.objects.specs.declared.Answer.{Answer}
 use Rattle.holders.specs.Holders.{ownerOf, isOther}
 use Rattle.device.specs.Setters.{withSubscriptions, withMutes, withHolders, withMechanism}
 use Rattle.device.specs.declared.Device.{Device}
-use Rattle.device.specs.declared.Ran.{Ran}
+
+-- R34. What a command comes to: the device, and the answer to it.
+pub record Ran : Type 0 where
+  pub device : Device
+  pub answer : Answer
 
 -- R42. The holder of a mute's lock.
 unfoldable pub holderAt : Device → ℕ → ℕ

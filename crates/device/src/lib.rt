@@ -2,16 +2,17 @@
 use connection::Connection;
 use heartbeat::Heartbeat;
 use mechanism::Mechanism;
-use objects::Answer;
 use subscription::Subscription;
 ghost use mathlib.Core.Path.{_≡_};
-ghost use Rattle.device.specs.State.{freshOf, openOf, sweepOf, closingOf, heardAt, sentAt, toldAt, beatingAt};
+ghost use Prim.Native.Nat.{_<_};
+ghost use lib.ListN.{set};
+ghost use Rattle.connection.specs.State.{closed};
+ghost use Rattle.device.specs.Setters.{withConnections};
+ghost use Rattle.device.specs.State.{freshOf, openOf, sweepOf, closingOf, heardAt, beatingAt};
 ghost use Rattle.device.specs.Obeys.{deviceObeys};
 ghost use Rattle.device.specs.Kept.{RulesKept, FailuresChangeNothing};
 ghost use Rattle.device.specs.Closure.{ClosureFrees};
 ghost use Rattle.device.specs.Time.{stepOf, tickOf};
-
-pub mod command;
 
 // A step of 2^31 or more is a clock that went back.
 const BACK: u32 = 2147483648;
@@ -57,16 +58,22 @@ pub struct Ticked {
     pub answer: Ticking,
 }
 
-pub struct Ran {
-    pub device: Device,
-    pub answer: Answer,
-}
-
 // R51. The step: one subtraction that goes round.
 fn since(reading: u32, last: u32) -> u32
     ensures { λ r. ⌜ r ≡ stepOf reading last ⌝ }
 {
     std::num::wrapping_sub_u32(reading, last)
+}
+
+// The connections with n closed; a number past the last closes none.
+fn shut(mut connections: [Connection; 8], n: u8) -> [Connection; 8]
+    ensures { λ r. ⌜ r ≡ set connections n closed ⌝ }
+{
+    let at = n as usize;
+    if at < connection::CONNECTIONS {
+        connections[at] = Connection::CLOSED;
+    }
+    connections
 }
 
 impl Device {
@@ -98,19 +105,18 @@ impl Device {
         let holders = self.holders;
         let a = connection::all_obey(connections);
         let b = subscription::all_obey(subscriptions, connections);
-        let c = subscription::all_apart(subscriptions);
         let d = objects::all_mute_values(mutes);
         let e = holders::all_obey(holders, connections);
         let mechanism = self.mechanism;
         let f = mechanism.obeys();
-        a & b & c & d & e & f
+        a & b & d & e & f
     }
 
     // The lowest free number is opened.
     pub fn open(mut self) -> Opened
         ensures { λ r. ⌜ r ≡ openOf self ⌝ }
     {
-        let connections = self.connections;
+        let mut connections = self.connections;
         let n = connection::lowest_free(connections);
         if n >= connection::CONNECTIONS {
             return Opened {
@@ -118,51 +124,69 @@ impl Device {
                 answer: Opening::Full,
             };
         }
-        self.connections[n] = Connection::OPENED;
+        connections[n] = Connection::OPENED;
+        self.connections = connections;
         Opened {
             device: self,
             answer: Opening::Number(n as u8),
         }
     }
 
-    // Whatever belongs to a connection that is not open is freed.
-    fn swept(mut self) -> Device
-        ensures { λ r. ⌜ r ≡ sweepOf self ⌝ }
+    // Built anew: a record with one element written in its place is kept in memory whole.
+    fn with_connections(self, connections: [Connection; 8]) -> Device
+        ensures { λ r. ⌜ r ≡ withConnections self connections ⌝ }
     {
-        let connections = self.connections;
         let subscriptions = self.subscriptions;
-        let s = subscription::all_swept(subscriptions, connections);
-        self.subscriptions = s;
+        let mutes = self.mutes;
         let holders = self.holders;
-        let h = holders::all_swept(holders, connections);
-        self.holders = h;
-        self
+        let mechanism = self.mechanism;
+        Device {
+            reading: self.reading,
+            connections,
+            subscriptions,
+            mutes,
+            holders,
+            mechanism,
+        }
+    }
+
+    // With these connections, whatever belongs to one that is not open is freed.
+    fn swept(self, connections: [Connection; 8]) -> Device
+        ensures { λ r. ⌜ r ≡ sweepOf (withConnections self connections) ⌝ }
+    {
+        let entries = self.subscriptions;
+        let subscriptions = subscription::all_swept(entries, connections);
+        let locks = self.holders;
+        let kept = holders::all_swept(locks, connections);
+        let mutes = self.mutes;
+        let mechanism = self.mechanism;
+        Device {
+            reading: self.reading,
+            connections,
+            subscriptions,
+            mutes,
+            holders: kept,
+            mechanism,
+        }
     }
 
     // Whatever is said of it, connection n is not open afterwards, and nothing of it is left.
     pub fn close(mut self, n: u8) -> Closed
         ensures { λ r. ⌜ r ≡ closingOf self n ⌝ }
     {
-        let at = n as usize;
-        if at >= connection::CONNECTIONS {
-            let device = self.swept();
+        let connections = self.connections;
+        let live = connection::live_at(connections, n);
+        let left = shut(connections, n);
+        self = self.swept(left);
+        if live {
             return Closed {
-                device,
-                answer: Closing::NotOpen,
-            };
-        }
-        let c = self.connections[at];
-        self.connections[at] = Connection::CLOSED;
-        let device = self.swept();
-        if !c.live {
-            return Closed {
-                device,
-                answer: Closing::NotOpen,
+                device: self,
+                answer: Closing::Done,
             };
         }
         Closed {
-            device,
-            answer: Closing::Done,
+            device: self,
+            answer: Closing::NotOpen,
         }
     }
 
@@ -188,8 +212,7 @@ impl Device {
         let mask = connection::closing(connections, step);
         let next = connection::all_ticked(connections, step);
         self.reading = reading;
-        self.connections = next;
-        let device = self.swept();
+        let device = self.swept(next);
         Ticked {
             device,
             answer: Ticking::Closed(mask),
@@ -197,59 +220,28 @@ impl Device {
     }
 
     // A sound message came on connection n.
-    pub fn heard(mut self, n: u8) -> Device
+    pub fn heard(self, n: u8) -> Device
+        requires { ⌜ n < 8 ⌝ }
         ensures { λ r. ⌜ r ≡ heardAt self n ⌝ }
     {
         let at = n as usize;
-        if at >= connection::CONNECTIONS {
-            return self;
-        }
-        let c = self.connections[at];
-        let next = c.heard();
-        self.connections[at] = next;
-        self
-    }
-
-    // The device sent something on connection n.
-    pub fn sent(mut self, n: u8) -> Device
-        ensures { λ r. ⌜ r ≡ sentAt self n ⌝ }
-    {
-        let at = n as usize;
-        if at >= connection::CONNECTIONS {
-            return self;
-        }
-        let c = self.connections[at];
-        let next = c.sent();
-        self.connections[at] = next;
-        self
-    }
-
-    // The entry at a place is told: it waits no more.
-    pub fn told(mut self, at: usize) -> Device
-        ensures { λ r. ⌜ r ≡ toldAt self at ⌝ }
-    {
-        if at >= subscription::ENTRIES {
-            return self;
-        }
-        let s = self.subscriptions[at];
-        let next = s.told();
-        self.subscriptions[at] = next;
-        self
+        let mut connections = self.connections;
+        let c = connections[at];
+        connections[at] = c.heard();
+        self.with_connections(connections)
     }
 
     // A keep-alive came on connection n and is answered.
-    pub fn keep_alive(mut self, n: u8, h: Heartbeat) -> Device
+    pub fn keep_alive(self, n: u8, h: Heartbeat) -> Device
         ensures { λ r. ⌜ r ≡ beatingAt self n h ⌝ }
     {
-        let connections = self.connections;
-        if !connection::live_at(connections, n) {
-            return self;
+        let mut connections = self.connections;
+        if connection::live_at(connections, n) {
+            let at = n as usize;
+            let c = connections[at];
+            connections[at] = c.beating(h);
         }
-        let at = n as usize;
-        let c = self.connections[at];
-        let next = c.beating(h);
-        self.connections[at] = next;
-        self
+        self.with_connections(connections)
     }
 }
 

@@ -9,7 +9,7 @@ use borrow.Author.Tests.{eqb-false, ne-eqb}
 use Rattle.objects.specs.Answers.{failedOf}
 use Rattle.holders.specs.Holders.{ownerOf, isOther}
 use Rattle.device.specs.declared.Device.{Device}
-use Rattle.device.specs.declared.Ran.{Ran}
+use Rattle.device.specs.Run.{Ran}
 use Rattle.device.proofs.Commands.{lock-other}
 use Rattle.promise.specs.Locks.{lockStatus}
 

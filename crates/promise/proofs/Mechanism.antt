@@ -35,7 +35,7 @@ use Rattle.device.specs.declared.Opened.{Opened}
 use Rattle.device.specs.declared.Opening.the-variants as opens
 use Rattle.device.specs.declared.Ticked.{Ticked}
 use Rattle.device.specs.declared.Ticking.the-variants as ticks
-use Rattle.device.specs.declared.Ran.{Ran}
+use Rattle.device.specs.Run.{Ran}
 use Rattle.device.proofs.Commands.{arm-status}
 use Rattle.device.proofs.Shapes.{arm-at, status-allowed}
 use Rattle.replies.specs.Bytes.{responseBytes, keepAliveBytes}

@@ -34,7 +34,7 @@ use Rattle.objects.specs.Methods.{lockMethod}
 use Rattle.objects.specs.Answers.{failedOf, answerWith}
 use Rattle.holders.specs.Holders.{ownerOf, isOther}
 use Rattle.device.specs.Run as commands
-use Rattle.device.specs.declared.Ran.{Ran}
+use Rattle.device.specs.Run.{Ran}
 use Rattle.device.proofs.Closures.{free-locks}
 use Rattle.device.proofs.Commands.{lock-other, lock-done}
 use Rattle.promise.specs.Kept.{Accepted}

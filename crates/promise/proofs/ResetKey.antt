@@ -38,7 +38,7 @@ use Rattle.device.specs.declared.Opening.the-variants as opens
 use Rattle.device.specs.declared.Ticked.{Ticked}
 use Rattle.device.specs.declared.Ticking.{Ticking}
 use Rattle.device.specs.declared.Ticking.the-variants as ticks
-use Rattle.device.specs.declared.Ran.{Ran}
+use Rattle.device.specs.Run.{Ran}
 use Rattle.serve.specs.Sound.{Ruled, soundOf}
 use Rattle.stream.specs.Calls.{deliver, ask, handed, asked, rules, AllBytes}
 use Rattle.endpoint.specs.State.{stateOf, recordObeys, closedState}

@@ -16,7 +16,7 @@ use Rattle.holders.specs.Holders.{ownerOf}
 use Rattle.device.specs.Setters.{withHolders}
 use Rattle.device.specs.State.{sentAt}
 use Rattle.device.specs.Run.{muteAt, statusOf, mutedOf, doneOf, ranBy, runOf}
-use Rattle.device.specs.declared.Ran.{Ran}
+use Rattle.device.specs.Run.{Ran}
 use Rattle.device.specs.declared.Device.{Device}
 use Rattle.endpoint.specs.State.{recordObeys}
 use Rattle.endpoint.specs.Outcome.{Outcome}

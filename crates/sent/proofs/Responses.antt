@@ -24,7 +24,7 @@ use Rattle.replies.specs.Bytes.{responseBytes}
 use Rattle.replies.proofs.Puts.{length-response}
 use Rattle.device.specs.Run.{muteAt, statusOf, doneOf, answerOf, ranBy, runOf}
 use Rattle.device.specs.declared.Device.{Device}
-use Rattle.device.specs.declared.Ran.{Ran}
+use Rattle.device.specs.Run.{Ran}
 use Rattle.serve.specs.Serve.{ranWith, ranFirst, lastOf, responseTo, responsesOf}
 use Rattle.serve.proofs.Answers.{Fitting}
 use Rattle.serve.proofs.Serves.{first-fits}

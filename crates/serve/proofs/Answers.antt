@@ -13,7 +13,7 @@ use Rattle.objects.specs.Answers.{replyRoom, classOf, identificationOf, replyOf
 use Rattle.objects.specs.declared.Answer.{Answer}
 use Rattle.device.specs.Run.{muteAt, statusOf, doneOf, answerOf, ranBy, runOf}
 use Rattle.device.specs.declared.Device.{Device}
-use Rattle.device.specs.declared.Ran.{Ran}
+use Rattle.device.specs.Run.{Ran}
 
 -- the parameters fit their room
 pub record Fitting (a : Answer) : Type 0 where

@@ -30,7 +30,7 @@ use Rattle.device.specs.State.{atConnection, livesIn, heardAt, sentAt, toldAt, 
 use Rattle.device.specs.Obeys.{deviceObeys}
 use Rattle.device.specs.Run.{mutedOf, doneOf, answerOf, unchanged, ranBy, runOf}
 use Rattle.device.specs.declared.Device.{Device}
-use Rattle.device.specs.declared.Ran.{Ran}
+use Rattle.device.specs.Run.{Ran}
 use Rattle.device.proofs.Keeps.{rules-kept}
 use Rattle.serve.specs.Serve.{ranWith, ranFirst, lastOf}
 use Rattle.serve.specs.Sound.{Ruled, commandsOf, keptAlive, soundOf}

@@ -1,3 +1,4 @@
+pub mod Ways
 pub mod Answers
 pub mod Serves
 pub mod Replies

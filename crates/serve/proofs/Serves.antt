@@ -1,6 +1,6 @@
 -- Laws of the loop over a message's commands. Assumes nothing.
 use Prim.Native.Nat.{ℕ, zero, suc, _+_, _-_, _*_, _≤_, _<_}
-use mathlib.Core.Path.{_≡_, refl, sym, ap, _∙_}
+use mathlib.Core.Path.{_≡_, refl, sym, ap, subst, _∙_}
 use mathlib.Core.Bool.{Bool, cond, true, false}
 use mathlib.Core.List.{List, _++_}
 use native.Mathlib.Omega.{arith}
@@ -14,7 +14,15 @@ use Rattle.frame.specs.Limits.{leastResponse}
 use Rattle.frame.specs.Entry.{entrySize, entriesFill}
 use Rattle.frame.proofs.Entries.{entry-at, entries-first, least-command}
 use Rattle.fields.specs.Fields.{commandOf}
+use Rattle.mechanism.specs.declared.Mechanism.{Mechanism}
+use Rattle.subscription.specs.declared.Subscription.{Subscription}
+use Rattle.objects.specs.declared.Answer.{Answer}
+use Rattle.device.specs.Run.{unchanged}
 use Rattle.device.specs.declared.Device.{Device}
+use Rattle.device.specs.Run.{Ran}
+use Rattle.command.specs.declared.channels.Channels.{Channels}
+use Rattle.replies.specs.Bytes.{responseBytes}
+use Rattle.serve.specs.Parts.{partsIn}
 use Rattle.replies.proofs.Puts.{length-response}
 use Rattle.serve.specs.Serve.{ranWith, ranFirst, lastOf, responseTo, responsesOf}
 use Rattle.serve.proofs.Answers.{Fitting, run-fits}
@@ -143,6 +151,38 @@ module _ (n kind count : ℕ) (body first : List ℕ) (fresh : Device) (out : Li
         go : (b : Bool) → cond b out out ≡ out
         go true = refl
         go false = refl
+
+-- the loop over the parts that commands touch: whatever the rest of the device is
+pub record ServingParts (n kind count : ℕ) (body first : List ℕ) (c₀ : Channels) (ss₀ : List Subscription) (m₀ : Mechanism) (out : List ℕ) (c : Channels) (ss : List Subscription) (m : Mechanism) (t : List ℕ) (left at : ℕ) : Type 0 where
+  pub each : (d : Device) → Serving n kind count body first (partsIn d c₀ ss₀ m₀) out (partsIn d c ss m) t left at
+
+pub parts-none : (n kind count : ℕ) (body out : List ℕ) (c : Channels) (ss : List Subscription) (m : Mechanism) → entriesFill count kind body ≡ true → 10 + count * 22 ≤ length out
+    → ServingParts n kind count body out c ss m out c ss m body count 10
+parts-none n kind count body out c ss m e h = record { each = λ d. serving-none n kind count body out (partsIn d c ss m) e h }
+
+-- a command's answer has room
+pub answer-fits : (d e : Device) (n kind : ℕ) (t : List ℕ) (answer : Answer) → unchanged e answer ≡ ranFirst d n kind t → answer .length ≤ 12
+answer-fits d e n kind t answer s = subst (λ (r : Ran). r .answer .length ≤ 12) (sym s) (first-fits d n kind t .low)
+
+module _ (n kind count : ℕ) (body first : List ℕ) (c₀ : Channels) (ss₀ : List Subscription) (m₀ : Mechanism) (out : List ℕ) (c : Channels) (ss : List Subscription) (m : Mechanism) (t : List ℕ) (left at : ℕ)
+    (w : ServingParts n kind count body first c₀ ss₀ m₀ out c ss m t left at)
+  where
+    pub parts-more : (c' : Channels) (ss' : List Subscription) (m' : Mechanism) (answer : Answer) (next : List ℕ) (after : ℕ) → 0 < left
+        → ((d : Device) → unchanged (partsIn d c' ss' m') answer ≡ ranFirst (partsIn d c ss m) n kind t)
+        → after ≡ cond (eqb kind 0) at (at + (leastResponse + answer .length))
+        → next ≡ cond (eqb kind 0) out (sets out at (responseBytes (commandOf (take (entrySize kind t) t) .handle) answer))
+        → ServingParts n kind count body first c₀ ss₀ m₀ next c' ss' m' (drop (entrySize kind t) t) (left - 1) after
+    unfolding responseTo
+    parts-more c' ss' m' answer next after h step ea en = record { each = go }
+      where
+        go : (d : Device) → Serving n kind count body first (partsIn d c₀ ss₀ m₀) next (partsIn d c' ss' m') (drop (entrySize kind t) t) (left - 1) after
+        go d =
+            let s = step d in
+            let a : answer ≡ ranFirst (partsIn d c ss m) n kind t .answer = ap (λ (r : Ran). r .answer) s in
+            subst (λ (r : Ran). Serving n kind count body first (partsIn d c₀ ss₀ m₀) next (r .device) (drop (entrySize kind t) t) (left - 1) after) (sym s)
+            (serving-more n kind count body first (partsIn d c₀ ss₀ m₀) out (partsIn d c ss m) t left at (w .each d) next after h
+            (ea ∙ ap (λ (x : Answer). cond (eqb kind 0) at (at + (leastResponse + x .length))) a)
+            (en ∙ ap (λ (x : Answer). cond (eqb kind 0) out (sets out at (responseBytes (commandOf (take (entrySize kind t) t) .handle) x))) a))
 
 -- each response has at most 22 bytes
 pub responses-few : (k : ℕ) (d : Device) (n kind : ℕ) (t : List ℕ) → length (responsesOf k d n kind t) ≤ k * 22

@@ -1,3 +1,4 @@
+pub mod Parts
 pub mod Serve
 pub mod Sound
 pub mod Kept

@@ -9,7 +9,7 @@ use Rattle.fields.specs.declared.CommandFields.{CommandFields}
 use Rattle.objects.specs.Methods.{methodNumber}
 use Rattle.device.specs.Run.{runOf}
 use Rattle.device.specs.declared.Device.{Device}
-use Rattle.device.specs.declared.Ran.{Ran}
+use Rattle.device.specs.Run.{Ran}
 use Rattle.replies.specs.Bytes.{responseBytes}
 
 -- R34. The command of these fields and this part, from connection n.

@@ -1,13 +1,13 @@
 // A subscription entry: who is told of which mute's changes.
 use connection::Connection;
 ghost use mathlib.Core.Path.{_≡_};
-ghost use mathlib.Core.Bool.{_||_};
+ghost use mathlib.Core.Bool.{cond, _&&_, _||_};
 ghost use mathlib.Core.List.{map};
 ghost use Prim.Native.Nat.{_≤_};
 ghost use lib.ListN.{length};
 ghost use Rattle.laws.specs.Lists.{all, allPairs};
 ghost use Rattle.subscription.specs.Setters.{withContext};
-ghost use Rattle.subscription.specs.State.{isTwin, twinAt, lowestUnused, lowestWaiting, markedOf, toldOf, sweptOf};
+ghost use Rattle.subscription.specs.State.{isTwin, lowestWaiting, markedOf, toldOf, sweptOf};
 ghost use Rattle.subscription.specs.Arguments.{subscriptionFrom, isStrange};
 ghost use Rattle.subscription.specs.Obeys.{isFree, entryObeys, apart};
 ghost use Rattle.subscription.specs.Kept.{EntriesKept};
@@ -101,10 +101,13 @@ impl Subscription {
         self.is_free()
     }
 
-    // The same subscription, whatever its context.
+    // The same subscription, whatever its context. Most pairs differ in their emitters.
     pub fn is_twin(self, t: Subscription) -> bool
         ensures { λ r. ⌜ r ≡ isTwin self t ⌝ }
     {
+        if self.emitter != t.emitter {
+            return false;
+        }
         self.used
             & t.used
             & (self.connection == t.connection)
@@ -112,12 +115,6 @@ impl Subscription {
             & (self.event == t.event)
             & (self.object == t.object)
             & (self.method == t.method)
-    }
-
-    fn is_apart(self, t: Subscription) -> bool
-        ensures { λ r. ⌜ r ≡ apart self t ⌝ }
-    {
-        !self.is_twin(t)
     }
 
     pub fn marked(mut self, emitter: u32) -> Subscription
@@ -149,75 +146,45 @@ impl Subscription {
     }
 }
 
-pub fn all_obey(entries: [Subscription; 32], connections: [Connection; 8]) -> bool
-    ensures { λ r. ⌜ r ≡ all (entryObeys connections) entries ⌝ }
+// How many entries before entry i may be its twin: an unused one is nobody's twin.
+fn before(used: bool, i: usize) -> usize
+    ensures { λ r. ⌜ r ≡ cond used i 0 ⌝ }
 {
-    let mut i: usize = 0;
-    while i < ENTRIES {
-        let s = entries[i];
-        let at = s.connection as usize;
-        if at >= connection::CONNECTIONS {
-            return false;
-        }
-        let c = connections[at];
-        if !s.obeys(c.live) {
-            return false;
-        }
-        i += 1;
+    if used {
+        return i;
     }
-    true
+    0
 }
 
-// From the last entry down, each with those before it: entries are used from the lowest on, and an unused one is nobody's twin.
-pub fn all_apart(entries: [Subscription; 32]) -> bool
-    ensures { λ r. ⌜ r ≡ allPairs apart entries ⌝ }
+// From the last entry down, each by itself and then with those before it: entry i has still to be compared with j of them.
+pub fn all_obey(entries: [Subscription; 32], connections: [Connection; 8]) -> bool
+    ensures { λ r. ⌜ r ≡ (all (entryObeys connections) entries && allPairs apart entries) ⌝ }
 {
-    let mut i: usize = ENTRIES - 1;
-    let mut j: usize = i;
+    let mut i: usize = ENTRIES;
+    let mut j: usize = 0;
     while 0 < i {
-        let s = entries[i];
-        if s.used & (0 < j) {
+        if 0 < j {
             j -= 1;
+            let s = entries[i];
             let t = entries[j];
-            if !t.is_apart(s) {
+            if t.is_twin(s) {
                 return false;
             }
         } else {
             i -= 1;
-            j = i;
+            let s = entries[i];
+            let at = s.connection as usize;
+            if at >= connection::CONNECTIONS {
+                return false;
+            }
+            let c = connections[at];
+            if !s.obeys(c.live) {
+                return false;
+            }
+            j = before(s.used, i);
         }
     }
     true
-}
-
-// The entry of the same subscription, or 32.
-pub fn twin_at(entries: [Subscription; 32], s: Subscription) -> usize
-    ensures { λ r. ⌜ r ≡ twinAt s entries ⌝ }
-{
-    let mut i: usize = 0;
-    while i < ENTRIES {
-        let t = entries[i];
-        if s.is_twin(t) {
-            return i;
-        }
-        i += 1;
-    }
-    i
-}
-
-// The lowest free entry, or 32.
-pub fn lowest_unused(entries: [Subscription; 32]) -> usize
-    ensures { λ r. ⌜ r ≡ lowestUnused entries ⌝ }
-{
-    let mut i: usize = 0;
-    while i < ENTRIES {
-        let t = entries[i];
-        if !t.used {
-            return i;
-        }
-        i += 1;
-    }
-    i
 }
 
 // The lowest waiting entry, or 32.
@@ -254,7 +221,7 @@ pub fn all_swept(entries: [Subscription; 32], connections: [Connection; 8]) -> [
     let mut out = entries;
     let mut i: usize = 0;
     while i < ENTRIES {
-        let s = entries[i];
+        let s = out[i];
         let at = s.connection as usize;
         if at < connection::CONNECTIONS {
             let c = connections[at];

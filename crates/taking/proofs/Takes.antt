@@ -1,38 +1,43 @@
 -- Laws of taking: what the record rules tell of a waiting entry and of a connection, and which way a take goes. Assumes nothing.
 use Prim.Native.Nat.{ℕ, suc, _<_, _≤_}
 use mathlib.Core.Path.{_≡_, refl}
-use mathlib.Core.Logic.{_⊎_, inl, inr}
+use mathlib.Core.Logic.{⊎-elim}
 use mathlib.Core.Bool.{Bool, true, false, cond, _&&_, and-false}
 use mathlib.Core.List.{List, [], _∷_}
 use native.Mathlib.Nat.{not-suc-le-zero, le-of-suc-le-suc}
 use native.Mathlib.Omega.{arith}
 use borrow.Author.Tests.{lt-ltb, le-ltb}
-use lib.Dec.{eqb}
-use lib.ListN.{length, getD}
+use lib.ListN.{length, getD, set}
+use lib.Dec.{ltb}
 use Rattle.laws.specs.Lists.{all, allPairs, index}
 use Rattle.laws.proofs.Conds.{and-left, and-right}
 use Rattle.laws.proofs.Loops.{all-at}
-use Rattle.laws.proofs.Tables.{or-cases, clash}
+use Rattle.laws.proofs.Tables.{clash}
 use Rattle.answers.specs.Numbers.{takingNumbers}
 use Rattle.answers.specs.declared.Taking.the-variants.{Nothing, Notification, KeepAlive}
 use Rattle.mechanism.specs.Obeys.{mechanismObeys}
 use Rattle.layout.specs.Message.{atFront}
-use Rattle.connection.specs.State.{connectionCount, closed, liveAt, lowestDue}
+use Rattle.connection.specs.State.{connectionCount, closed, lowestDue}
 use Rattle.connection.specs.Obeys.{connectionObeys}
-use Rattle.connection.specs.Supervision.{heartbeatKept}
+use Rattle.connection.specs.Supervision.{sentOf, heartbeatKept}
 use Rattle.connection.specs.declared.Connection.{Connection}
-use Rattle.subscription.specs.State.{entryCount, isWaiting, free, lowestWaiting}
-use Rattle.subscription.specs.Obeys.{isFree, isSound, entryObeys, apart}
+use Rattle.connection.proofs.Times.{live-below}
+use Rattle.subscription.specs.State.{entryCount, isWaiting, free, lowestWaiting, toldOf}
+use Rattle.subscription.specs.Obeys.{isFree, entryObeys, apart}
 use Rattle.subscription.specs.declared.Subscription.{Subscription}
-use Rattle.objects.specs.Methods.{placeOf, isMute, changeEvent}
+use Rattle.subscription.proofs.Keeps.{Sound, entry-view}
+use Rattle.objects.specs.Methods.{placeOf, isMute}
 use Rattle.objects.specs.Tests.{isMuteValue}
 use Rattle.holders.specs.Holders.{holderObeys}
 use Rattle.heartbeat.specs.declared.Heartbeat.{Heartbeat}
 use Rattle.replies.specs.Bytes.{notificationBytes, keepAliveBytes}
-use Rattle.device.specs.State.{sentAt}
+use Rattle.device.specs.Setters.{withConnections, withSubscriptions}
+use Rattle.device.specs.State.{sentAt, toldAt}
 use Rattle.device.specs.Obeys.{deviceObeys}
 use Rattle.device.specs.Run.{muteAt}
 use Rattle.device.specs.declared.Device.{Device}
+use Rattle.taking.specs.declared.Sending.{Sending}
+use Rattle.taking.specs.Scaffold.{sentIn}
 use Rattle.taking.specs.Dispatch.{Dispatch, dispatch, subscriptionAt, notifiedOf, notifying, reminding, takenBy, dispatched}
 
 -- ---- the record rules
@@ -40,21 +45,9 @@ waiting-used : (s : Subscription) → isWaiting s ≡ true → isFree s ≡ fals
 unfolding isWaiting isFree
 waiting-used s w = simp (w, and-false)
 
-sound-mute : (cs : List Connection) (s : Subscription) → isSound cs s ≡ true → isMute (s .emitter) ≡ true
-unfolding isSound
-sound-mute cs s e =
-    let a = s .used && liveAt cs (s .connection) in
-    let b = isMute (s .emitter) in
-    and-right a b (and-left (a && b) (eqb (s .event) changeEvent) e)
-
--- an entry that waits is used, and has a mute as emitter
-waiting-mute : (cs : List Connection) (s : Subscription) → entryObeys cs s ≡ true → isWaiting s ≡ true → isMute (s .emitter) ≡ true
-unfolding entryObeys
-waiting-mute cs s e w = go (or-cases (isFree s) (isSound cs s) e)
-  where
-    go : (isFree s ≡ true) ⊎ (isSound cs s ≡ true) → isMute (s .emitter) ≡ true
-    go (inl f) = clash (isMute (s .emitter) ≡ true) (isFree s) f (waiting-used s w)
-    go (inr k) = sound-mute cs s k
+-- an entry that waits is used: its connection is open, and its emitter a mute
+waiting-sound : (cs : List Connection) (s : Subscription) → entryObeys cs s ≡ true → isWaiting s ≡ true → Sound cs s
+waiting-sound cs s e w = ⊎-elim (λ (f : isFree s ≡ true). clash (Sound cs s) (isFree s) f (waiting-used s w)) (λ k. k) (entry-view cs s e)
 
 device-first : (d : Device) → deviceObeys d ≡ true → (all connectionObeys (d .connections) ≡ true) × (all (entryObeys (d .connections)) (d .subscriptions) ≡ true)
 unfolding deviceObeys
@@ -72,12 +65,17 @@ module _ (d : Device) (o : deviceObeys d ≡ true) where
   pub connection-obeys : (n : ℕ) → length (d .connections) ≡ 8 → n < 8 → connectionObeys (getD (d .connections) n closed) ≡ true
   connection-obeys n l h = all-at connectionObeys (d .connections) n closed (device-first d o .0) (omega arith)
 
-  pub emitter-mute : (i : ℕ) → length (d .subscriptions) ≡ 32 → i < 32 → isWaiting (subscriptionAt d i) ≡ true
-      → isMute (subscriptionAt d i .emitter) ≡ true
-  emitter-mute i l h w =
-      let cs = d .connections in
-      let e = all-at (entryObeys cs) (d .subscriptions) i free (device-first d o .1) (omega arith) in
-      waiting-mute cs (subscriptionAt d i) e w
+  module _ (i : ℕ) (l : length (d .subscriptions) ≡ 32) (h : i < 32) (w : isWaiting (subscriptionAt d i) ≡ true) where
+    entry-sound : Sound (d .connections) (subscriptionAt d i)
+    entry-sound =
+        let cs = d .connections in
+        waiting-sound cs (subscriptionAt d i) (all-at (entryObeys cs) (d .subscriptions) i free (device-first d o .1) (omega arith)) w
+
+    pub emitter-mute : isMute (subscriptionAt d i .emitter) ≡ true
+    emitter-mute = entry-sound .mute
+
+    pub entry-place : length (d .connections) ≡ 8 → subscriptionAt d i .connection < 8
+    entry-place k = omega (arith, live-below (d .connections) (subscriptionAt d i .connection) (entry-sound .live))
 
 -- ---- what is found
 pub index-meets : {A : Type 0} (p : A → Bool) (l : List A) (a : A) → index p l < length l → p (getD l (index p l) a) ≡ true
@@ -92,6 +90,39 @@ pub found-waits : (l : List Subscription) (i : ℕ) → i ≡ lowestWaiting l �
 found-waits l i e s h = rw e (index-meets isWaiting l free (omega arith))
 
 -- ---- what is sent
+module _ (d : Device) (s : Sending) where
+  pub sending-told : (i : ℕ) → i < 32 → subscriptionAt d i .connection < 8
+      → s .place ≡ i → s .entry ≡ toldOf (subscriptionAt d i) → s .number ≡ subscriptionAt d i .connection
+      → s .connection ≡ sentOf (getD (d .connections) (subscriptionAt d i .connection) closed)
+      → sentIn d s ≡ notifiedOf d i
+  unfolding sentIn notifiedOf sentAt toldAt
+  sending-told i h m p e n c = rw (p, e, n, c, lt-ltb i entryCount h, lt-ltb (subscriptionAt d i .connection) connectionCount m)
+
+  pub sending-reminded : (n : ℕ) → n < 8 → s .place ≡ entryCount → s .number ≡ n → s .connection ≡ sentOf (getD (d .connections) n closed)
+      → sentIn d s ≡ sentAt d n
+  unfolding sentIn sentAt
+  sending-reminded n h p q c = rw (p, q, c, lt-ltb n connectionCount h)
+
+  pub sending-nothing : s .place ≡ entryCount → s .number ≡ connectionCount → sentIn d s ≡ d
+  unfolding sentIn
+  sending-nothing p q = rw (p, q)
+
+  pub sending-put : (a : List ℕ) (es : List Subscription) (cs : List Connection) (o : List ℕ) (w : Dispatch)
+      → dispatch a (sentIn d s) o ≡ w
+      → es ≡ cond (ltb (s .place) entryCount) (set (d .subscriptions) (s .place) (s .entry)) (d .subscriptions)
+      → cs ≡ cond (ltb (s .number) connectionCount) (set (d .connections) (s .number) (s .connection)) (d .connections)
+      → dispatch a (withConnections (withSubscriptions d es) cs) o ≡ w
+  unfolding sentIn
+  sending-put a es cs o w e p q = rw (p, q) e
+
+-- what is put at a place, on the two ways of its test
+module _ {A : Type 0} (l m : List A) (i n : ℕ) (x : A) where
+  pub put-in : i < n → m ≡ set l i x → m ≡ cond (ltb i n) (set l i x) l
+  put-in h e = rw (lt-ltb i n h) e
+
+  pub put-past : n ≤ i → m ≡ l → m ≡ cond (ltb i n) (set l i x) l
+  put-past h e = rw (le-ltb i n h) e
+
 pub notified-is : (d : Device) (i at k : ℕ) (f : Device) (out o : List ℕ) → at ≡ placeOf (subscriptionAt d i .emitter)
     → k ≡ length (notificationBytes (subscriptionAt d i) (getD (d .mutes) at 0))
     → o ≡ atFront (notificationBytes (subscriptionAt d i) (getD (d .mutes) at 0)) out
@@ -117,6 +148,6 @@ module _ (d : Device) (out : List ℕ) (i : ℕ) (qi : i ≡ lowestWaiting (d .s
     unfolding takenBy
     take-reminded h o e = rw (← qi, le-ltb i entryCount past, ← qn, lt-ltb n connectionCount h) e
 
-    pub take-nothing : connectionCount ≤ n → dispatch (takingNumbers Nothing) d out ≡ dispatched d out
+    pub take-nothing : connectionCount ≤ n → (f : Device) → f ≡ d → dispatch (takingNumbers Nothing) f out ≡ dispatched d out
     unfolding takenBy
-    take-nothing h = rw (← qi, le-ltb i entryCount past, ← qn, le-ltb n connectionCount h)
+    take-nothing h f e = rw (e, ← qi, le-ltb i entryCount past, ← qn, le-ltb n connectionCount h)

@@ -30,7 +30,7 @@ use Rattle.device.specs.State.{heardAt, sentAt}
 use Rattle.device.specs.Setters.{withHolders}
 use Rattle.device.specs.Run.{runOf}
 use Rattle.device.specs.declared.Device.{Device}
-use Rattle.device.specs.declared.Ran.{Ran}
+use Rattle.device.specs.Run.{Ran}
 use Rattle.device.proofs.Commands.{lock-other, lock-done}
 use Rattle.serve.specs.Serve.{ranWith, ranFirst, lastOf, responseTo, responsesOf}
 use Rattle.serve.specs.Sound.{Ruled, ruled, commandsOf, soundOf}

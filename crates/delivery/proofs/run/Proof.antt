@@ -34,7 +34,7 @@ sound-requires c κs =
     let w = s .pre .0 in
     let z : partAt (a .n) + a .t - partAt (a .n) ≡ a .t = omega arith in
     let l : length (take (a .t) (drop (partAt (a .n)) (now (a .area)))) ≡ a .t = length-take-le (a .t) (drop (partAt (a .n)) (now (a .area))) (rw length-drop (omega (arith, w .number, w .long, w .fits))) in
-    rw (z, l) (w .sound, s .pre .1)
+    rw (z, l) (w .number, w .sound, s .pre .1)
 
 clear-used-requires : tie.Need-clear-used-requires
 clear-used-requires c κs = search needs

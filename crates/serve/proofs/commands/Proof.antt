@@ -1,17 +1,9 @@
-use Prim.Native.Nat.{_-_}
-use mathlib.Core.Path.{_≡_, refl, sym, ap, _∙_}
-use mathlib.Core.List.{List}
-use Prim.Native.Nat.{ℕ}
-use lib.Seq.{sets}
+use mathlib.Core.Path.{_≡_}
 use denote.Ref.{now}
 use native.Mathlib.Omega.{arith}
-use borrow.Author.Tests.{eq-eqb, ne-eqb}
-use Rattle.frame.specs.Limits.{response}
-use Rattle.layout.specs.Message.{headBytes}
-use Rattle.layout.proofs.Messages.{length-message}
-use Rattle.serve.specs.Serve.{responsesOf}
-use Rattle.serve.proofs.Serves.{responses-few}
-use Rattle.serve.proofs.Replies.{commands-silent, commands-told, room, reply-stores, front-none}
+use lib.ListN.{length}
+use Rattle.laws.proofs.Tables.{length-mapped}
+use Rattle.serve.proofs.Replies.{end-between, commands-end}
 use borrow.Author.Needs.{needs}
 use Rattle.serve.proofs.commands.Statement.{statement}
 use Rattle.serve.proofs.commands.Tie as tie
@@ -19,65 +11,49 @@ use Rattle.serve.proofs.commands.Tie as tie
 serve-requires : tie.Need-serve-requires
 serve-requires c κs = search needs
 
+reply-requires : tie.Need-reply-requires
+reply-requires c κs =
+    let a = c .before .before .before .before .before .before .before .args in
+    let e = end-between (a .device) (a .n) (a .kind) (a .count) (now (a .body)) (c .before .before .before .serve .result .3) (omega arith) (c .before .before .before .serve .ensures .1) in
+    (e .0, e .1, omega arith)
+
+mul-c : tie.Need-mul-c
+mul-c c = search needs
+
+array-copy-out-c : tie.Need-array-copy-out-c
+array-copy-out-c c = search needs
+
+spoken-requires : tie.Need-spoken-requires
+spoken-requires c κs = search needs
+
+mul-connections : tie.Need-mul-connections
+mul-connections c = search needs
+
+array-set-from-connections : tie.Need-array-set-from-connections
+array-set-from-connections c = search needs
+
 same-length : tie.Need-same-length
 same-length c = search needs
 
 returns : tie.Need-returns
 returns c =
-    let a = c .before .before .before .before .before .before .before .before .args in
-    let s = c .before .before .before .before .serve .ensures in
-    let k = eq-eqb (a .kind) 0 (omega arith) in
-    rw (commands-silent (a .device) (a .n) (a .kind) (a .count) (now (a .body)) (omega arith)) (s .0, refl, (rw k at (s .2)) ∙ sym (front-none (now (a .out))))
-
-sub-put-head : tie.Need-sub-put-head
-sub-put-head c =
-    let a = c .before .before .before .before .before .before .before .before .before .args in
-    let k = ne-eqb (a .kind) 0 (λ e. omega arith) in
-    let q = rw k at (c .before .before .before .before .before .serve .ensures .1) in
-    omega arith
-
-cast-put-head : tie.Need-cast-put-head
-cast-put-head c =
-    let a = c .before .before .before .before .before .before .before .before .before .args in
-    let k = ne-eqb (a .kind) 0 (λ e. omega arith) in
-    let q = rw k at (c .before .before .before .before .before .serve .ensures .1) in
-    let r = room (a .device) (a .n) (a .kind) (a .count) (now (a .body)) (omega arith) in
-    record { fits = omega arith }
-
-put-head-requires : tie.Need-put-head-requires
-put-head-requires c κs = search needs
-
-sent-requires : tie.Need-sent-requires
-sent-requires c κs = search needs
-
-same-length-2 : tie.Need-same-length-2
-same-length-2 c = search needs
-
-returns-2 : tie.Need-returns-2
-returns-2 c =
-    let a = c .before .before .before .before .before .before .before .before .before .before .before .before .before .args in
-    let k = ne-eqb (a .kind) 0 (λ e. omega arith) in
-    let q = rw k at (c .before .before .before .before .before .before .before .before .before .serve .ensures .1) in
-    let s = c .before .before .before .before .before .before .before .before .before .serve .ensures in
-    let t = now (a .body) in
-    let body = responsesOf (a .count) (a .device) (a .n) (a .kind) t in
-    let r = room (a .device) (a .n) (a .kind) (a .count) t (omega arith) in
-    let b : c .before .before .before .before .before .before .before .before .before .serve .last .1 .1 .1 .1 .1 .0 ≡ sets (now (a .out)) 10 body = rw k at (s .2) in
-    let p = c .before .before .before .put-head .ensures ∙ ap (λ (l : List ℕ). sets l 0 (headBytes response (a .count) (c .before .before .before .before .before .before .before .before .before .serve .result .end - 1))) b in
-    let few = responses-few (a .count) (a .device) (a .n) (a .kind) t in
-    rw (commands-told (a .device) (a .n) (a .kind) (a .count) t (λ e. omega arith))
-    (cc, omega (arith, length-message response (a .count) body), reply-stores (a .count) (c .before .before .before .before .before .before .before .before .before .serve .result .end) (now (a .out)) body (c .before .before .before .put-head .last .0) q (omega arith) p)
+    let a = c .before .before .before .before .before .before .before .before .before .before .before .before .before .before .before .before .before .before .args in
+    let s = c .before .before .before .before .before .before .before .before .before .before .before .before .before .before .serve in
+    let r = c .before .before .before .before .before .before .before .before .before .before .reply in
+    let g = c .before .before .before .before .before .before .before .before .before .before .before .before .before .before .before .before .before .before .good .0 in
+    let l : length (a .device .connections) ≡ 8 = search (length-mapped, g, needs) in
+    commands-end (a .device) (a .n) (a .kind) (a .count) (now (a .body)) (s .result .0) (s .result .1) (s .result .2) (c .before .before .before .before .before .before .before .before .before .before .before .before .before .before .before .before .before .before .pre .0) l (s .ensures .0) (c .before .before .before .before .before .spoken .result) _ (s .result .3) (r .result) (now (a .out)) _ (r .last .0) (c .before .before .before .before .before .before .before .before .before .before .before .before .before .before .before .before .before .before .pre .4) (c .before .before .before .before .before .before .before .before .before .before .before .before .before .before .before .before .before .before .pre .3) (s .ensures .1) (s .ensures .2) (c .before .before .before .before .before .spoken .ensures) (r .ensures .0) (r .ensures .1)
 
 pub commands-spec : {M : Type 1} → statement M
 commands-spec =
     tie.close
     (tie.spec
     serve-requires
+    reply-requires
+    mul-c
+    array-copy-out-c
+    spoken-requires
+    mul-connections
+    array-set-from-connections
     same-length
-    returns
-    sub-put-head
-    cast-put-head
-    put-head-requires
-    sent-requires
-    same-length-2
-    returns-2)
+    returns)

@@ -1,16 +1,20 @@
 use Rattle.subscription.specs.State.{sweptOf}
 use Rattle.subscription.proofs.Entries.{sweeps-in, sweeps-past}
 use Rattle.laws.proofs.Loops.{Mapping, mapping-none, mapping-all}
+use Rattle.laws.proofs.Tables.{length-mapped}
 use Prim.Native.Nat.{_-_}
+use mathlib.Core.Path.{_≡_}
+use lib.ListN.{length}
+use native.Mathlib.Omega.{arith}
 use borrow.Author.Needs.{needs}
 use Rattle.subscription.proofs.all_swept.Statement.{statement}
 use Rattle.subscription.proofs.all_swept.Tie as tie
 
 abbrev Inv-loop : tie.InvT-loop
-Inv-loop entries connections out₀ i₀ out i = Mapping (sweptOf connections) 32 i entries out
+Inv-loop connections out₀ i₀ out i = Mapping (sweptOf connections) 32 i out₀ out
 
 abbrev μ-loop : tie.MeasureT-loop
-μ-loop entries connections out₀ i₀ out i = 32 - i
+μ-loop connections out₀ i₀ out i = 32 - i
 
 loop-holds : tie.Need-loop-holds Inv-loop μ-loop
 loop-holds c = search (mapping-none, needs)
@@ -46,7 +50,9 @@ loop-less : tie.Need-loop-less Inv-loop μ-loop
 loop-less c = search needs
 
 loop-again : tie.Need-loop-again Inv-loop μ-loop
-loop-again c = search (sweeps-in, needs)
+loop-again c =
+    let l : length (c .before .before .before .before .before .before .before .args .t2) ≡ 8 = search (length-mapped, needs) in
+    sweeps-in _ _ (c .before .before .before .before .before .before .loop .inv) (omega arith) _ _ (c .swept .ensures) (omega arith)
 
 swept-requires-2 : tie.Need-swept-requires-2 Inv-loop μ-loop
 swept-requires-2 c κs = search needs
@@ -64,7 +70,9 @@ loop-less-2 : tie.Need-loop-less-2 Inv-loop μ-loop
 loop-less-2 c = search needs
 
 loop-again-2 : tie.Need-loop-again-2 Inv-loop μ-loop
-loop-again-2 c = search (sweeps-past, needs)
+loop-again-2 c =
+    let l : length (c .before .before .before .before .before .before .args .t2) ≡ 8 = search (length-mapped, needs) in
+    sweeps-past _ _ (c .before .before .before .before .before .loop .inv) (omega arith) _ (c .swept2 .ensures) l (omega arith)
 
 returns : tie.Need-returns Inv-loop μ-loop
 returns c = search (mapping-all, needs)

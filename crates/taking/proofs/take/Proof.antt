@@ -1,49 +1,52 @@
-use denote.Ref.{now}
-use Rattle.laws.proofs.Tables.{length-mapped}
-use Rattle.taking.proofs.Takes.{found-waits, take-notified, take-reminded, take-nothing}
+use mathlib.Core.Logic.{⊎-elim}
+use Rattle.connection.specs.State.{connectionCount}
+use Rattle.subscription.specs.State.{entryCount}
+use Rattle.taking.proofs.Takes.{sending-put, put-in, put-past}
 use borrow.Author.Needs.{needs}
 use Rattle.taking.proofs.take.Statement.{statement}
 use Rattle.taking.proofs.take.Tie as tie
 
-lowest-waiting-requires : tie.Need-lowest-waiting-requires
-lowest-waiting-requires c κs = search needs
+chosen-requires : tie.Need-chosen-requires
+chosen-requires c κs = search needs
 
-notified-requires : tie.Need-notified-requires
-notified-requires c κs = (search needs, search needs, search (found-waits, length-mapped, needs), search needs)
+mul-subscriptions : tie.Need-mul-subscriptions
+mul-subscriptions c = search needs
+
+array-set-from-subscriptions : tie.Need-array-set-from-subscriptions
+array-set-from-subscriptions c = search needs
+
+mul-connections : tie.Need-mul-connections
+mul-connections c = search needs
+
+array-set-from-connections : tie.Need-array-set-from-connections
+array-set-from-connections c = search needs
 
 same-length : tie.Need-same-length
 same-length c = search needs
 
 returns : tie.Need-returns
-returns c = search (take-notified, needs)
-
-lowest-due-requires : tie.Need-lowest-due-requires
-lowest-due-requires c κs = search needs
-
-reminded-requires : tie.Need-reminded-requires
-reminded-requires c κs = search needs
-
-same-length-2 : tie.Need-same-length-2
-same-length-2 c = search needs
-
-returns-2 : tie.Need-returns-2
-returns-2 c = search (take-reminded, needs)
-
-returns-3 : tie.Need-returns-3
-returns-3 c =
-    let a = c .before .before .before .before .before .before .before .args in
-    take-nothing (a .device) (now (a .output)) _ (c .before .before .before .before .lowest-waiting .ensures) (c .before .before .before .if1 .left) _ (c .before .lowest-due .ensures) (c .if2 .left)
+returns c =
+    let k = c .before .before .before .before .before .before .before .before .before .before .before in
+    let d = k .before .before .before .args .device in
+    let s = k .chosen .result in
+    sending-put d s _ _ _ _ _ (k .chosen .ensures)
+    (⊎-elim
+    (λ w. put-in (d .subscriptions) _ (s .place) entryCount (s .entry) (w .0 .taken) (w .1))
+    (λ w. put-past (d .subscriptions) _ (s .place) entryCount (s .entry) (w .0 .left) (w .1))
+    (c .before .before .before .before .before .before .if1 .came))
+    (⊎-elim
+    (λ w. put-in (d .connections) _ (s .number) connectionCount (s .connection) (w .0 .taken) (w .1))
+    (λ w. put-past (d .connections) _ (s .number) connectionCount (s .connection) (w .0 .left) (w .1))
+    (c .before .before .before .if2 .came))
 
 pub take-spec : {M : Type 1} → statement M
 take-spec =
     tie.close
     (tie.spec
-    lowest-waiting-requires
-    notified-requires
+    chosen-requires
+    mul-subscriptions
+    array-set-from-subscriptions
+    mul-connections
+    array-set-from-connections
     same-length
-    returns
-    lowest-due-requires
-    reminded-requires
-    same-length-2
-    returns-2
-    returns-3)
+    returns)

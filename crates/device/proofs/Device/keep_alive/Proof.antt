@@ -1,5 +1,8 @@
+use mathlib.Core.Path.{_≡_}
+use mathlib.Core.Logic.{⊎-elim}
 use Rattle.laws.proofs.Tables.{length-mapped}
-use Rattle.device.proofs.Times.{beating-not, live-place, beating-in}
+use Rattle.device.specs.State.{beatingAt}
+use Rattle.device.proofs.Times.{live-place, beating-not, beating-in}
 use borrow.Author.Needs.{needs}
 use Rattle.device.proofs.Device.keep_alive.Statement.{statement}
 use Rattle.device.proofs.Device.keep_alive.Tie as tie
@@ -7,36 +10,43 @@ use Rattle.device.proofs.Device.keep_alive.Tie as tie
 live-at-requires : tie.Need-live-at-requires
 live-at-requires c κs = search needs
 
-returns : tie.Need-returns
-returns c = search beating-not
-
 mul-c : tie.Need-mul-c
 mul-c c = search needs
 
-element-copy-out-c : tie.Need-element-copy-out-c
-element-copy-out-c c = search (live-place, length-mapped, needs)
+array-copy-out-c : tie.Need-array-copy-out-c
+array-copy-out-c c = search (live-place, length-mapped, needs)
 
 beating-requires : tie.Need-beating-requires
 beating-requires c κs = search needs
 
-mul-next : tie.Need-mul-next
-mul-next c = search needs
+mul-connections : tie.Need-mul-connections
+mul-connections c = search needs
 
-element-set-from-next : tie.Need-element-set-from-next
-element-set-from-next c = live-place _ _ _ (c .before .before .before .live-at .ensures) (c .before .before .if1 .left) (search (length-mapped, needs))
+array-set-from-connections : tie.Need-array-set-from-connections
+array-set-from-connections c = search (live-place, length-mapped, needs)
 
-returns-2 : tie.Need-returns-2
-returns-2 c = search beating-in
+with-connections-requires : tie.Need-with-connections-requires
+with-connections-requires c κs = search needs
+
+returns : tie.Need-returns
+returns c =
+    let a = c .before .before .before .before .args in
+    let live = c .before .before .live-at .ensures in
+    let made = c .with-connections .ensures in
+    ⊎-elim {C = c .with-connections .result ≡ beatingAt (a .self) (a .n) (a .h)}
+    (λ w. beating-in _ _ _ live _ _ _ made (w .0 .taken) _ _ (w .2 .ensures) (w .3))
+    (λ w. beating-not _ _ _ live _ _ _ made (w .0 .left) (w .1))
+    (c .before .if1 .came)
 
 pub keep-alive-spec : {M : Type 1} → statement M
 keep-alive-spec =
     tie.close
     (tie.spec
     live-at-requires
-    returns
     mul-c
-    element-copy-out-c
+    array-copy-out-c
     beating-requires
-    mul-next
-    element-set-from-next
-    returns-2)
+    mul-connections
+    array-set-from-connections
+    with-connections-requires
+    returns)

@@ -10,19 +10,25 @@ lowest-free-requires c κs = search needs
 returns : tie.Need-returns
 returns c = search (open-full, length-mapped, needs)
 
-mul-t9 : tie.Need-mul-t9
-mul-t9 c = search needs
+mul-connections : tie.Need-mul-connections
+mul-connections c = search needs
 
-element-set-from-self : tie.Need-element-set-from-self
-element-set-from-self c = search needs
+array-set-from-connections : tie.Need-array-set-from-connections
+array-set-from-connections c = search needs
 
-cast-t13 : tie.Need-cast-t13
-cast-t13 c = search needs
+cast-t11 : tie.Need-cast-t11
+cast-t11 c = search needs
 
 returns-2 : tie.Need-returns-2
-returns-2 c = open-done _ _ (c .before .lowest-free .ensures) (search (length-mapped, needs)) (c .if1 .left)
+returns-2 c = search (open-done, length-mapped, needs)
 
 pub open-spec : {M : Type 1} → statement M
 open-spec =
     tie.close
-    (tie.spec lowest-free-requires returns mul-t9 element-set-from-self cast-t13 returns-2)
+    (tie.spec
+    lowest-free-requires
+    returns
+    mul-connections
+    array-set-from-connections
+    cast-t11
+    returns-2)

@@ -1,0 +1,73 @@
+use Rattle.command.proofs.Acts.{set-refused, set-strange, set-stays, set-done}
+use borrow.Author.Needs.{needs}
+use Rattle.command.proofs.channels.Channels.set.Statement.{statement}
+use Rattle.command.proofs.channels.Channels.set.Tie as tie
+
+element-copy-out-holder : tie.Need-element-copy-out-holder
+element-copy-out-holder c = search needs
+
+is-other-requires : tie.Need-is-other-requires
+is-other-requires c κs = search needs
+
+failed-requires : tie.Need-failed-requires
+failed-requires c κs = search needs
+
+same-requires : tie.Need-same-requires
+same-requires c κs = search needs
+
+returns : tie.Need-returns
+returns c = search (set-refused, needs)
+
+is-mute-value-requires : tie.Need-is-mute-value-requires
+is-mute-value-requires c κs = search needs
+
+failed-requires-2 : tie.Need-failed-requires-2
+failed-requires-2 c κs = search needs
+
+same-requires-2 : tie.Need-same-requires-2
+same-requires-2 c κs = search needs
+
+returns-2 : tie.Need-returns-2
+returns-2 c = search (set-strange, needs)
+
+element-copy-out-value : tie.Need-element-copy-out-value
+element-copy-out-value c = search needs
+
+done-requires : tie.Need-done-requires
+done-requires c κs = search needs
+
+same-requires-3 : tie.Need-same-requires-3
+same-requires-3 c κs = search needs
+
+returns-3 : tie.Need-returns-3
+returns-3 c = search (set-stays, needs)
+
+element-write-self : tie.Need-element-write-self
+element-write-self c = search needs
+
+done-requires-2 : tie.Need-done-requires-2
+done-requires-2 c κs = search needs
+
+returns-4 : tie.Need-returns-4
+returns-4 c = search (set-done, needs)
+
+pub set-spec : {M : Type 1} → statement M
+set-spec =
+    tie.close
+    (tie.spec
+    element-copy-out-holder
+    is-other-requires
+    failed-requires
+    same-requires
+    returns
+    is-mute-value-requires
+    failed-requires-2
+    same-requires-2
+    returns-2
+    element-copy-out-value
+    done-requires
+    same-requires-3
+    returns-3
+    element-write-self
+    done-requires-2
+    returns-4)

@@ -1,0 +1,57 @@
+use Rattle.command.proofs.Acts.{unlock-refused, unlock-early, unlocked}
+use borrow.Author.Needs.{needs}
+use Rattle.command.proofs.channels.Channels.unlock.Statement.{statement}
+use Rattle.command.proofs.channels.Channels.unlock.Tie as tie
+
+element-copy-out-holder : tie.Need-element-copy-out-holder
+element-copy-out-holder c = search needs
+
+is-other-requires : tie.Need-is-other-requires
+is-other-requires c κs = search needs
+
+failed-requires : tie.Need-failed-requires
+failed-requires c κs = search needs
+
+same-requires : tie.Need-same-requires
+same-requires c κs = search needs
+
+returns : tie.Need-returns
+returns c = search (unlock-refused, needs)
+
+failed-requires-2 : tie.Need-failed-requires-2
+failed-requires-2 c κs = search needs
+
+same-requires-2 : tie.Need-same-requires-2
+same-requires-2 c κs = search needs
+
+returns-2 : tie.Need-returns-2
+returns-2 c = search (unlock-early, needs)
+
+element-write-self : tie.Need-element-write-self
+element-write-self c = search needs
+
+done-requires : tie.Need-done-requires
+done-requires c κs = search needs
+
+same-requires-3 : tie.Need-same-requires-3
+same-requires-3 c κs = search needs
+
+returns-3 : tie.Need-returns-3
+returns-3 c = search (unlocked, needs)
+
+pub unlock-spec : {M : Type 1} → statement M
+unlock-spec =
+    tie.close
+    (tie.spec
+    element-copy-out-holder
+    is-other-requires
+    failed-requires
+    same-requires
+    returns
+    failed-requires-2
+    same-requires-2
+    returns-2
+    element-write-self
+    done-requires
+    same-requires-3
+    returns-3)
