@@ -23,14 +23,13 @@ impl Record {
     {
         let at = n as usize;
         let device = self.device;
-        let held = self.held;
+        let mut held = self.held;
         let taken = delivery::take_in(device, held[at], area, n, piece, output);
         let next = taken.device;
-        self.device = next;
-        self.held[at] = taken.held;
+        held[at] = taken.held;
         let answer = taken.answer;
         Delivered {
-            state: self,
+            state: Record { device: next, held },
             answer,
         }
     }

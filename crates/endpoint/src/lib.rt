@@ -120,9 +120,9 @@ impl Record {
         match answer {
             device::Opening::Number(n) => {
                 let next = opened.device;
-                self.device = next;
+                let held = self.held;
                 Opened {
-                    state: self,
+                    state: Record { device: next, held },
                     answer: Opening::Number(n),
                 }
             }
@@ -142,9 +142,9 @@ impl Record {
         let device = self.device;
         let closed = device.close(n);
         let next = closed.device;
-        self.device = next;
-        self.held[at] = 0;
-        self
+        let mut held = self.held;
+        held[at] = 0;
+        Record { device: next, held }
     }
 
     // The host's close.
@@ -175,9 +175,9 @@ impl Record {
             };
         }
         area::clear_part(area, n as usize);
-        self = self.closed(n);
+        let next = self.closed(n);
         Closed {
-            state: self,
+            state: next,
             answer: Closing::Done,
         }
     }
@@ -197,11 +197,12 @@ impl Record {
                 let next = ticked.device;
                 let open = lives(next);
                 area::clear_closed(area, open);
-                self.device = next;
                 let kept = area::held_kept(open, held);
-                self.held = kept;
                 Ticked {
-                    state: self,
+                    state: Record {
+                        device: next,
+                        held: kept,
+                    },
                     answer: Ticking::Closed(mask),
                 }
             }

@@ -25,10 +25,10 @@ impl Record {
         let device = self.device;
         let taken = taking::take(device, output);
         let next = taken.device;
-        self.device = next;
+        let held = self.held;
         let answer = taken.answer;
         Taken {
-            state: self,
+            state: Record { device: next, held },
             answer,
         }
     }

@@ -12,11 +12,11 @@ use Rattle.endpoint.proofs.Record.closed.Tie as tie
 close-requires : tie.Need-close-requires
 close-requires c κs = search needs
 
-mul-self : tie.Need-mul-self
-mul-self c = search needs
+mul-held : tie.Need-mul-held
+mul-held c = search needs
 
-element-write-self : tie.Need-element-write-self
-element-write-self c = search needs
+array-write-held : tie.Need-array-write-held
+array-write-held c = search needs
 
 -- what the device's close hands back, put into the record
 closed-as : (r : Record) (n : ℕ) (x : Closed) → x ≡ closingOf (r .device) n → stateOf (x .device) (set (r .held) n 0) ≡ closedState r n
@@ -24,7 +24,7 @@ unfolding closedState closingOf
 closed-as r n x e = ap (λ (y : Closed). stateOf (y .device) (set (r .held) n 0)) e
 
 returns : tie.Need-returns
-returns c = closed-as _ _ _ (c .before .close .ensures)
+returns c = closed-as _ _ _ (c .before .before .close .ensures)
 
 pub closed-spec : {M : Type 1} → statement M
-closed-spec = tie.close (tie.spec close-requires mul-self element-write-self returns)
+closed-spec = tie.close (tie.spec close-requires mul-held array-write-held returns)

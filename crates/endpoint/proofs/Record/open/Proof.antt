@@ -20,9 +20,9 @@ enum-told c = search needs
 
 returns-2 : tie.Need-returns-2
 returns-2 c =
-    let u = c .before .before .before .before .before .before in
-    let o = c .before .before .before .before .«open» in
-    open-number (u .before .before .args .self) _ (u .before .obeys .ensures) (u .if1 .left) (o .result) _ (o .ensures) (c .before .before .answer .given .1)
+    let u = c .before .before .before .before .before .before .before in
+    let o = c .before .before .before .before .before .«open» in
+    open-number (u .before .before .args .self) _ (u .before .obeys .ensures) (u .if1 .left) (o .result) _ (o .ensures) (c .before .before .before .answer .given .1)
 
 returns-3 : tie.Need-returns-3
 returns-3 c =

@@ -12,11 +12,11 @@ array-read-take-in c = search needs
 take-in-requires : tie.Need-take-in-requires
 take-in-requires c κs = search needs
 
-mul-self : tie.Need-mul-self
-mul-self c = search needs
+mul-held : tie.Need-mul-held
+mul-held c = search needs
 
-element-write-self : tie.Need-element-write-self
-element-write-self c = search needs
+array-write-held : tie.Need-array-write-held
+array-write-held c = search needs
 
 same-length : tie.Need-same-length
 same-length c = search needs
@@ -28,4 +28,4 @@ returns : tie.Need-returns
 returns c = search (brought-in, needs)
 
 pub take-in-spec : {M : Type 1} → statement M
-take-in-spec = tie.close (tie.spec mul-take-in array-read-take-in take-in-requires mul-self element-write-self same-length same-length-2 returns)
+take-in-spec = tie.close (tie.spec mul-take-in array-read-take-in take-in-requires mul-held array-write-held same-length same-length-2 returns)
