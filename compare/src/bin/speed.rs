@@ -1,11 +1,13 @@
 //! Measures the library's delivery against plain Rust written for speed.
 //!
 //! `speed` measures both in one run, round by round in turn, on buffers
-//! cleared beforehand; the table shows the median of the rounds. `speed
-//! PROGRAM COMMANDS whole|bytes MESSAGES` only delivers, for `./count`, which
-//! counts the instructions of it.
+//! cleared beforehand; the table shows the median of the rounds. With words it
+//! only delivers, for `count/run`, which counts the instructions of it: `speed
+//! PROGRAM COMMANDS whole|bytes MESSAGES` the table's messages, and `speed
+//! PROGRAM KIND COMMANDS ENTRIES MESSAGES` those of one kind of command, to a
+//! record with so many entries in use; of no commands an empty piece.
 
-use compare::answer::MESSAGE;
+use compare::answer::{MESSAGE, MORE};
 use compare::engine::Engine;
 use compare::fast;
 use compare::harness::random::Random;
@@ -23,6 +25,9 @@ const ROUNDS: usize = 5;
 const SHARE: usize = MESSAGES / ROUNDS;
 /// So many different messages are sent again and again.
 const POOL: usize = 100;
+/// So many entries are in use in the table.
+const USED: u32 = 8;
+const EVENT: u32 = 0x0001_0001;
 
 /// What a host keeps between calls.
 struct Host {
@@ -57,6 +62,16 @@ const PROGRAMS: [(&str, Deliver); 2] = [("library", by_ours), ("plain", by_fast)
 #[cfg(not(feature = "ours"))]
 const PROGRAMS: [(&str, Deliver); 1] = [("plain", by_fast)];
 
+/// The command of a kind at its place in all messages; each is carried out.
+type Make = fn(u32) -> Vec<u8>;
+
+const KINDS: [(&str, Make); 4] = [
+    ("lock", lock),
+    ("get", get),
+    ("set", set),
+    ("add", add_or_remove),
+];
+
 fn main() -> ExitCode {
     let words: Vec<String> = std::env::args().skip(1).collect();
     let words: Vec<&str> = words.iter().map(String::as_str).collect();
@@ -66,33 +81,70 @@ fn main() -> ExitCode {
             Some(())
         }
         [program, commands, pieces, messages] => only(program, commands, pieces, messages),
+        [program, kind, commands, entries, messages] => {
+            only_kind(program, kind, commands, entries, messages)
+        }
         _ => None,
     };
     match done {
         Some(()) => ExitCode::SUCCESS,
         None => {
             eprintln!("usage: speed [library|plain COMMANDS whole|bytes MESSAGES]");
+            eprintln!("       speed library|plain lock|get|set|add COMMANDS ENTRIES MESSAGES");
             ExitCode::from(2)
         }
     }
 }
 
-/// Delivers and measures nothing; tells the end by a number, to see that both programs come to the same.
+/// Delivers and measures nothing.
 fn only(program: &str, commands: &str, pieces: &str, messages: &str) -> Option<()> {
-    let (_, deliver) = PROGRAMS.iter().find(|(name, _)| *name == program)?;
+    let deliver = find(&PROGRAMS, program)?;
     let whole = match pieces {
         "whole" => true,
         "bytes" => false,
         _ => return None,
     };
     let pool = pool(commands.parse().ok()?);
+    let mut host = prepared(USED);
+    run(&mut host, deliver, &pool, whole, messages.parse().ok()?);
+    tell_end(host);
+    Some(())
+}
+
+/// Delivers commands of one kind, or an empty piece each time, and measures nothing.
+fn only_kind(
+    program: &str,
+    kind: &str,
+    commands: &str,
+    entries: &str,
+    messages: &str,
+) -> Option<()> {
+    let deliver = find(&PROGRAMS, program)?;
+    let make = find(&KINDS, kind)?;
+    let commands = commands.parse().ok()?;
     let count = messages.parse().ok()?;
-    let mut host = prepared();
-    run(&mut host, *deliver, &pool, whole, count);
+    let mut host = prepared(entries.parse().ok()?);
+    if commands == 0 {
+        for _ in 0..count {
+            assert_eq!(give(&mut host, deliver, &[]), MORE);
+        }
+    } else {
+        run(&mut host, deliver, &pool_of(make, commands), true, count);
+    }
+    tell_end(host);
+    Some(())
+}
+
+fn find<T: Copy>(named: &[(&str, T)], wanted: &str) -> Option<T> {
+    let (_, found) = named.iter().find(|(name, _)| *name == wanted)?;
+    Some(*found)
+}
+
+/// The end as a number, to see that both programs come to the same.
+fn tell_end(host: Host) {
     let mut end = DefaultHasher::new();
     (format!("{:?}", host.record), host.area, host.output).hash(&mut end);
     println!("{:016x}", end.finish());
-    Some(())
 }
 
 fn table() {
@@ -122,7 +174,7 @@ fn case(commands: usize, whole: bool) {
         for turn in 0..PROGRAMS.len() {
             // The order alternates, so that neither always runs first.
             let place = (round + turn) % PROGRAMS.len();
-            let mut host = prepared();
+            let mut host = prepared(USED);
             times[place].push(run(&mut host, PROGRAMS[place].1, &pool, whole, SHARE));
             ends.push((host.record, host.area, host.output));
         }
@@ -156,18 +208,24 @@ fn run(host: &mut Host, deliver: Deliver, pool: &[Vec<u8>], whole: bool, count: 
         let step = if whole { message.len() } else { 1 };
         let mut kind = 0;
         for piece in message.chunks(step) {
-            // Neither program may be worked out beforehand or left out.
-            let (told, taken) = black_box(deliver)(host, black_box(piece));
-            assert_eq!(taken, piece.len());
-            kind = told;
+            kind = give(host, deliver, piece);
         }
         assert_eq!(kind, MESSAGE);
     }
     start.elapsed()
 }
 
-/// Two supervised connections and some subscriptions; cleared buffers.
-fn prepared() -> Host {
+/// Delivers a piece, all of which is taken; answers the kind.
+#[inline(always)]
+fn give(host: &mut Host, deliver: Deliver, piece: &[u8]) -> u8 {
+    // Neither program may be worked out beforehand or left out.
+    let (kind, taken) = black_box(deliver)(host, black_box(piece));
+    assert_eq!(taken, piece.len());
+    kind
+}
+
+/// Two supervised connections that share so many subscriptions, up to 32; cleared buffers.
+fn prepared(entries: u32) -> Host {
     let mut host = Host {
         record: Second.fresh(0),
         area: vec![0; AREA],
@@ -176,8 +234,8 @@ fn prepared() -> Host {
     for n in 0..2 {
         host.record = Second.open(host.record).record;
         send(&mut host, n, &keep_alive(1, 30));
-        for emitter in 4_097..4_101 {
-            let name = naming(emitter, 0x0001_0001, 9, 0x0003_0001);
+        for each in 0..entries / 2 {
+            let name = naming(4_097 + each % 8, EVENT, 9 + each / 8, 0x0003_0001);
             let add = command(1, 4, (3, 1), 5, &adding(&name, 7, 1, [0, 0]));
             send(&mut host, n, &message(0, &[add]));
         }
@@ -212,5 +270,92 @@ fn any_command(random: &mut Random) -> Vec<u8> {
         2 => command(handle, mute, (4, 2), 1, &[random.pick(&[1, 2])]),
         3 => command(handle, mute, (4, 1), 0, &[]),
         _ => command(handle, mute, (1, 1), 0, &[]),
+    }
+}
+
+/// Messages of so many commands of one kind.
+fn pool_of(make: Make, commands: u32) -> Vec<Vec<u8>> {
+    (0..POOL as u32)
+        .map(|at| {
+            let places = at * commands..(at + 1) * commands;
+            message(1, &places.map(make).collect::<Vec<_>>())
+        })
+        .collect()
+}
+
+fn lock(place: u32) -> Vec<u8> {
+    command(place, 4_097 + place % 8, (1, 3), 0, &[])
+}
+
+fn get(place: u32) -> Vec<u8> {
+    command(place, 4_097 + place % 8, (4, 1), 0, &[])
+}
+
+/// Muted, then unmuted: every set changes its mute, and the pool can begin again.
+fn set(place: u32) -> Vec<u8> {
+    let mute = 4_097 + place / 2 % 8;
+    command(place, mute, (4, 2), 1, &[1 + (place % 2) as u8])
+}
+
+/// Added, then removed, so that the pool can begin again.
+fn add_or_remove(place: u32) -> Vec<u8> {
+    let name = naming(4_097 + place / 2 % 8, EVENT, 99, 0x0003_0001);
+    match place % 2 {
+        0 => command(place, 4, (3, 1), 5, &adding(&name, 7, 1, [0, 0])),
+        _ => command(place, 4, (3, 2), 2, &name),
+    }
+}
+
+#[cfg(test)]
+mod tests {
+    use super::*;
+
+    /// The pool's commands one by one, twice over.
+    fn one_by_one(make: Make, entries: u32, mut seen: impl FnMut(Record, &Host)) {
+        let mut host = prepared(entries);
+        for message in pool_of(make, 1).iter().cycle().take(2 * POOL) {
+            let before = host.record;
+            send(&mut host, 0, message);
+            seen(before, &host);
+        }
+    }
+
+    #[test]
+    fn so_many_entries_are_used() {
+        for entries in [0, USED, 32] {
+            let used = prepared(entries).record.device.subscriptions;
+            assert_eq!(
+                used.iter().filter(|entry| entry.used).count(),
+                entries as usize
+            );
+        }
+    }
+
+    #[test]
+    fn every_command_is_carried_out() {
+        for (kind, make) in KINDS {
+            one_by_one(make, USED, |_, host| {
+                assert_eq!(host.output[18], 0, "{kind}")
+            });
+        }
+        one_by_one(lock, 32, |_, host| assert_eq!(host.output[18], 0));
+    }
+
+    #[test]
+    fn every_set_changes_a_mute() {
+        one_by_one(set, USED, |before, host| {
+            assert_ne!(before.device.mutes, host.record.device.mutes);
+        });
+    }
+
+    #[test]
+    fn fifty_commands_of_each_kind_fit() {
+        for (kind, make) in KINDS {
+            let mut host = prepared(USED);
+            for message in pool_of(make, 50) {
+                send(&mut host, 0, &message);
+                assert_eq!(host.output[8..10], [0, 50], "{kind}");
+            }
+        }
     }
 }
