@@ -1,10 +1,9 @@
 -- Laws of where an entry stands. Assumes nothing.
-use Prim.Native.Nat.{ℕ, zero, suc, _-_, _≤_, _<_}
+use Prim.Native.Nat.{ℕ, zero, suc, _≤_, _<_}
 use mathlib.Core.Path.{_≡_, refl}
 use mathlib.Core.List.{List}
 use mathlib.Core.Bool.{true}
 use native.Mathlib.Omega.{arith}
-use native.Mathlib.Numerals.{sub-one}
 use native.Mathlib.Nat.{not-suc-le-zero}
 use lib.ListN.{length, drop}
 use lib.Seq.{length-take-le}
@@ -12,18 +11,15 @@ use borrow.Author.Tests.{eqb-true, ne-eqb}
 use Rattle.frame.specs.Limits.{secondsBytes, millisecondsBytes}
 use Rattle.frame.specs.Entry.{leastEntry, entrySize, entriesFill}
 use Rattle.frame.specs.Decide.{keepAliveFill}
+use Rattle.frame.specs.Scaffold.{restFrom}
 use Rattle.frame.proofs.Entries.{entry-at, entries-first}
 use Rattle.fields.specs.Place.{entriesFrom, entryBytes}
 
-pub from-end : (left k : ℕ) (t : List ℕ) → left ≤ 0 → entriesFrom left k t ≡ t
-unfolding entriesFrom
-from-end zero k t h = refl
-from-end (suc n) k t h = absurd (not-suc-le-zero h)
-
-pub from-step : (left k : ℕ) (t : List ℕ) → 0 < left → entriesFrom left k t ≡ entriesFrom (left - 1) k (drop (entrySize k t) t)
-unfolding entriesFrom
-from-step zero k t h = absurd (not-suc-le-zero h)
-from-step (suc n) k t h = simp sub-one
+-- the bytes from entry i on are as many as the walk leaves
+pub from-rest : (i k : ℕ) (t : List ℕ) → length (entriesFrom i k t) ≡ restFrom i k t
+unfolding entriesFrom restFrom
+from-rest zero k t = refl
+from-rest (suc i) k t = from-rest i k (drop (entrySize k t) t)
 
 -- each of the entries that fill some data is well formed
 pub entries-get : (i n k : ℕ) (t : List ℕ) → i < n → entriesFill n k t ≡ true → entrySize k (entriesFrom i k t) ≡ 0 → ⊥

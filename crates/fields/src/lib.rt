@@ -1,4 +1,4 @@
-// Where an entry stands, its fields and its parameters, and the heartbeat that a keep-alive carries.
+// An entry's fields and its parameters, and the heartbeat that a keep-alive carries; in the definitions, where an entry stands.
 use frame::places;
 use heartbeat::Heartbeat;
 use heartbeat::Milliseconds;
@@ -9,7 +9,7 @@ ghost use Prim.Native.Nat.{_+_, _≤_};
 ghost use lib.ListN.{length};
 ghost use Rattle.frame.specs.Entry.{leastEntry};
 ghost use Rattle.frame.specs.Decide.{keepAliveFill};
-ghost use Rattle.fields.specs.Place.{entriesFrom, entryBytes, parametersOf};
+ghost use Rattle.fields.specs.Place.{parametersOf};
 ghost use Rattle.fields.specs.Fields.{methodAt, commandOf, notificationOf, responseOf, heartbeatOf};
 
 pub struct Method {
@@ -37,29 +37,6 @@ pub struct ResponseFields {
     pub handle: u32,
     pub status: u8,
     pub count: u8,
-}
-
-// The data from entry index on.
-pub fn entries_from<'a>(body: &'a [u8], kind: u8, index: usize) -> &'a [u8]
-    ensures { λ r. ⌜ now r ≡ entriesFrom index kind (now (body .entry)) ⌝ }
-{
-    let mut t = body;
-    let mut left = index;
-    while 0 < left {
-        let n = frame::entry_size(t, kind);
-        t = &t[n..];
-        left -= 1;
-    }
-    t
-}
-
-// The bytes of entry index, size included.
-pub fn entry_bytes<'a>(body: &'a [u8], kind: u8, index: usize) -> &'a [u8]
-    ensures { λ r. ⌜ now r ≡ entryBytes index kind (now (body .entry)) ⌝ }
-{
-    let t = entries_from(body, kind, index);
-    let n = frame::entry_size(t, kind);
-    &t[..n]
 }
 
 // The entry's parameters, as a part of it.

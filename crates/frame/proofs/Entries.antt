@@ -1,11 +1,9 @@
--- Laws of the entry and of the walk. Assumes nothing.
+-- Laws of the entry and of the entries of some data. Assumes nothing.
 use Prim.Native.Nat.{ℕ, zero, suc, _+_, _-_, _*_, _≤_, _<_}
 use mathlib.Core.Path.{_≡_, refl, sym}
 use mathlib.Core.List.{List}
 use mathlib.Core.Bool.{Bool, cond, true, false, false≢true}
 use native.Mathlib.Omega.{arith}
-use native.Mathlib.Numerals.{sub-one}
-use native.Mathlib.Nat.{not-suc-le-zero}
 use lib.Dec.{ltb, eqb}
 use lib.ListN.{length, drop, getD, length-drop}
 use borrow.Author.Tests.{eq-eqb, ne-eqb, lt-ltb, le-ltb, ltb-false, eqb-false}
@@ -49,23 +47,6 @@ entry-at k t nz =
     let w = fits-within k (be32At t 0) _ _ (q .0) in
     let l = ltb-false (length t) (leastEntry k) (p .0) in
     record { size = sym (q .1); low = w .0; high = omega (arith, w .1, length-drop (leastEntry k) t); fits = q .0 }
-
--- the walk, one entry at a time
-pub entries-end : (left k : ℕ) (t : List ℕ) → left ≤ 0 → entriesFill left k t ≡ eqb (length t) 0
-unfolding entriesFill
-entries-end zero k t h = refl
-entries-end (suc n) k t h = absurd (not-suc-le-zero h)
-
-pub entries-bad : (left k : ℕ) (t : List ℕ) → 0 < left → entrySize k t ≡ 0 → entriesFill left k t ≡ false
-unfolding entriesFill
-entries-bad zero k t h e = absurd (not-suc-le-zero h)
-entries-bad (suc n) k t h e = simp (eq-eqb (entrySize k t) 0 e)
-
-pub entries-step : (left k : ℕ) (t : List ℕ) → 0 < left → (entrySize k t ≡ 0 → ⊥)
-    → entriesFill left k t ≡ entriesFill (left - 1) k (drop (entrySize k t) t)
-unfolding entriesFill
-entries-step zero k t h e = absurd (not-suc-le-zero h)
-entries-step (suc n) k t h e = simp (ne-eqb (entrySize k t) 0 e, sub-one)
 
 -- entries that fill some data: the first, and those after it
 pub entries-first : (n k : ℕ) (t : List ℕ) → entriesFill (suc n) k t ≡ true

@@ -2,18 +2,20 @@
 use Prim.Native.Nat.{ℕ, _+_, _≤_, _<_}
 use mathlib.Core.Path.{_≡_, refl, sym, ap, _∙_}
 use mathlib.Core.List.{List, _++_}
-use mathlib.Core.Bool.{Bool, cond, true, false, true≢false}
+use mathlib.Core.Bool.{Bool, cond, true, false, true≢false, false≢true}
 use native.Mathlib.Omega.{arith}
 use lib.Dec.{ltb, eqb}
 use lib.ListN.{length, take, drop, getD, length-take, take-append-drop}
 use lib.Seq.{getD-take, take-take, take-append-le, length-take-le}
 use borrow.Author.Tests.{eq-eqb, ne-eqb, lt-ltb, le-ltb, ltb-true, ltb-false, eqb-true, eqb-false}
+use Rattle.laws.proofs.Conds.{cond-right}
 use Rattle.octets.specs.Numbers.{be16At, be32At}
 use Rattle.numbers.specs.Fault.{faultStart, faultData}
 use Rattle.frame.specs.Limits.{sync, headerEnd, greatestSize}
 use Rattle.frame.specs.Header.{pduSize, pduType, messageCount, messageLength, headerFault}
 use Rattle.frame.specs.Decide.{dataSound, decideData, decideHeader, decide, taken, settled}
 use Rattle.frame.specs.Deciding.{Deciding}
+use Rattle.frame.specs.Scaffold.{hasHeader, restBy}
 use Rattle.frame.specs.declared.Decision.{Decision}
 use Rattle.frame.specs.declared.Decision.the-variants.{Undecided, Faulty, Sound}
 use Rattle.frame.proofs.Headers.{sound-header}
@@ -64,6 +66,36 @@ way-back s d (part e h f m) =
     simp (ne-eqb (length s) 0 (λ e. omega arith), eq-eqb (getD s 0 0) sync e, le-ltb (length s) headerEnd h, eq-eqb (headerFault s) 0 f, lt-ltb (length s) (messageLength s) m)
 way-back s d (whole e h f m) =
     simp (ne-eqb (length s) 0 (λ e. omega arith), eq-eqb (getD s 0 0) sync e, le-ltb (length s) headerEnd h, eq-eqb (headerFault s) 0 f, le-ltb (length s) (messageLength s) m)
+
+-- where a header stands it decides, or the message's last byte does
+pub headed : (s : List ℕ) → hasHeader s ≡ true → (headerEnd ≤ length s) × (decide s ≡ decideHeader (headerFault s) s)
+unfolding hasHeader decide
+headed s e =
+    let p = cond-right (ltb (length s) headerEnd) false (eqb (getD s 0 0) sync) true e false≢true in
+    let l = ltb-false (length s) headerEnd (p .0) in
+    (l, simp (ne-eqb (length s) 0 (λ z. omega arith), eq-eqb (getD s 0 0) sync (eqb-true _ _ (p .1)), le-ltb (length s) headerEnd l))
+
+-- else the first byte is wrong, or there are too few
+pub unheaded : (s : List ℕ) → hasHeader s ≡ false → getD s 0 0 ≡ sync → length s < headerEnd
+unfolding hasHeader
+unheaded s e f = go (ltb (length s) headerEnd) refl (rw (eq-eqb (getD s 0 0) sync f) at e)
+  where
+    go : (b : Bool) → ltb (length s) headerEnd ≡ b → cond b false true ≡ false → length s < headerEnd
+    go true q z = ltb-true _ _ q
+    go false q z = absurd (true≢false z)
+
+-- and no entry is found
+rest-none : (s : List ℕ) (i : ℕ) (d : Decision) → Way s d → hasHeader s ≡ false → restBy d s i ≡ 0
+unfolding restBy
+rest-none s i d (none e) u = refl
+rest-none s i d (start p n) u = refl
+rest-none s i d (few p e h) u = refl
+rest-none s i d (header e h f) u = refl
+rest-none s i d (part e h f m) u = refl
+rest-none s i d (whole e h f m) u = absurd (omega (arith, unheaded s u e))
+
+pub unheaded-rest : (s : List ℕ) (i : ℕ) → hasHeader s ≡ false → restBy (decide s) s i ≡ 0
+unheaded-rest s i u = rest-none s i (decide s) (way s) u
 
 -- a whole message is decided by its last byte
 pub data-settled : (m : List ℕ) → settled (decideData m) ≡ true

@@ -1,11 +1,14 @@
 // The limits, the header, the deciding byte and the walk over a message's entries.
 ghost use mathlib.Core.Path.{_≡_};
-ghost use Prim.Native.Nat.{_+_, _-_, _<_, _≤_};
+ghost use mathlib.Core.Bool.{false};
+ghost use Prim.Native.Nat.{_+_, _-_, _^_, _<_, _≤_};
 ghost use lib.ListN.{length};
+ghost use Rattle.octets.specs.Numbers.{be32At};
 ghost use Rattle.frame.specs.Header.{countFault, fieldsFault, headerFault};
 ghost use Rattle.frame.specs.Entry.{leastEntry, countPlace, leastCount, countFits, entryFits, entrySize, entriesFill, wellFormed};
 ghost use Rattle.frame.specs.Decide.{keepAliveFill, dataSound, decideData, decideHeader, decide};
 ghost use Rattle.frame.specs.Deciding.{Deciding};
+ghost use Rattle.frame.specs.Scaffold.{entriesStand, restFrom, dataRest, hasHeader, Finds};
 
 pub mod places;
 
@@ -42,11 +45,26 @@ pub const SECONDS_BYTES: usize = 2;
 
 pub const MILLISECONDS_BYTES: usize = 4;
 
+// No message has an entry of this number: its messageCount is at most that.
+const NO_ENTRY: usize = 65535;
+
 // What the bytes so far decide, with how many of them that takes.
 pub enum Decision {
     Undecided,
     Faulty(u8, usize),
     Sound(usize),
+}
+
+// A decision, and of a sound message the bytes from the entry that was looked for on: 0 where it has no such entry.
+pub struct Found {
+    pub decision: Decision,
+    pub rest: usize,
+}
+
+// Whether the entries that were walked over are sound, and how many bytes there are from some entry on.
+struct Walked {
+    sound: bool,
+    rest: usize,
 }
 
 fn count_fault(kind: u8, count: u16) -> u8
@@ -156,15 +174,23 @@ fn entry_fits(kind: u8, size: usize, count: u8, part: &[u8]) -> bool
     count_fits(least_count(kind), count, size - least)
 }
 
-// The size of the well formed entry at the front of t, or 0 where there is none.
-pub fn entry_size(t: &[u8], kind: u8) -> usize
+// The size that the entry at the front of t gives: its size, where it is known to be well formed. Nothing is checked.
+pub fn given_size(t: &[u8]) -> usize
+    requires { ⌜ 4 ≤ length (now t) ⌝ }
+    ensures { λ r. ⌜ (r ≡ be32At (now (t .entry)) 0) × (r < 2 ^ 32) ⌝ }
+{
+    octets::be32(t, 0) as usize
+}
+
+// The check of an entry, which the walk alone makes: the size of the well formed entry at the front of t, or 0 where there is none.
+fn entry_size(t: &[u8], kind: u8) -> usize
     ensures { λ r. ⌜ (r ≡ entrySize kind (now (t .entry))) × (r ≤ length (now (t .entry))) ⌝ }
 {
     let least = least_entry(kind);
     if t.len() < least {
         return 0;
     }
-    let size = octets::be32(t, 0) as usize;
+    let size = given_size(t);
     let at = count_place(kind);
     if entry_fits(kind, size, t[at], &t[least..]) {
         return size;
@@ -172,21 +198,52 @@ pub fn entry_size(t: &[u8], kind: u8) -> usize
     0
 }
 
-// The walk: count entries of that type fill the body exactly.
-pub fn entries_fill(body: &[u8], kind: u8, count: u16) -> bool
-    ensures { λ r. ⌜ r ≡ entriesFill count kind (now (body .entry)) ⌝ }
+// The walk over so many entries: whether each is well formed, and how many bytes stand behind them. It stops at one that is not.
+fn walk(body: &[u8], kind: u8, count: u16) -> Walked
+    ensures { λ r. ⌜ (r .sound ≡ entriesStand count kind (now (body .entry)))
+        × (r .rest ≡ restFrom count kind (now (body .entry))) × (r .rest ≤ length (now (body .entry))) ⌝ }
 {
     let mut t = body;
     let mut left = count;
     while 0 < left {
         let n = entry_size(t, kind);
         if n == 0 {
-            return false;
+            return Walked {
+                sound: false,
+                rest: t.len(),
+            };
         }
         t = &t[n..];
         left -= 1;
     }
-    t.len() == 0
+    Walked {
+        sound: true,
+        rest: t.len(),
+    }
+}
+
+// Count entries of that type fill the body exactly.
+fn entries_fill(body: &[u8], kind: u8, count: u16) -> bool
+    ensures { λ r. ⌜ r ≡ entriesFill count kind (now (body .entry)) ⌝ }
+{
+    let all = walk(body, kind, count);
+    all.sound & (all.rest == 0)
+}
+
+// The same, with the bytes from entry index on: one walk, up to that entry and then on.
+fn entries_found(body: &[u8], kind: u8, count: u16, index: u16) -> Walked
+    requires { ⌜ index < count ⌝ }
+    ensures { λ r. ⌜ (r .sound ≡ entriesFill count kind (now (body .entry))) × (r .rest ≡ restFrom index kind (now (body .entry))) ⌝ }
+{
+    let before = walk(body, kind, index);
+    if !before.sound {
+        return before;
+    }
+    let at = body.len() - before.rest;
+    Walked {
+        sound: entries_fill(&body[at..], kind, count - index),
+        rest: before.rest,
+    }
 }
 
 // R14. The bytes are one entry of that type, 0 to 3, and nothing more.
@@ -208,48 +265,81 @@ fn keep_alive_fill(body: &[u8]) -> bool
     body.len() == MILLISECONDS_BYTES
 }
 
-fn data_sound(kind: u8, count: u16, body: &[u8]) -> bool
-    ensures { λ r. ⌜ r ≡ dataSound kind count (now (body .entry)) ⌝ }
+// Whether the data is sound, with the bytes from entry index on: 0 where there is no such entry.
+fn data_sound(kind: u8, count: u16, body: &[u8], index: usize) -> Walked
+    ensures { λ r. ⌜ (r .sound ≡ dataSound kind count (now (body .entry))) × (r .rest ≡ dataRest kind count (now (body .entry)) index) ⌝ }
 {
     if kind == KEEP_ALIVE {
-        return keep_alive_fill(body);
+        return Walked {
+            sound: keep_alive_fill(body),
+            rest: 0,
+        };
     }
-    entries_fill(body, kind, count)
+    if index < count as usize {
+        return entries_found(body, kind, count, index as u16);
+    }
+    Walked {
+        sound: entries_fill(body, kind, count),
+        rest: 0,
+    }
+}
+
+// A decision that is not for a sound message finds no entry.
+fn unfound(decision: Decision) -> Found
+    ensures { λ r. ⌜ (r .decision ≡ decision) × (r .rest ≡ 0) ⌝ }
+{
+    Found { decision, rest: 0 }
 }
 
 // m is a whole message with a sound header.
-fn decide_data(m: &[u8]) -> Decision
+fn decide_data(m: &[u8], index: usize) -> Found
     requires { ⌜ 10 ≤ length (now m) ⌝ }
-    ensures { λ r. ⌜ r ≡ decideData (now (m .entry)) ⌝ }
+    ensures { λ r. ⌜ Finds (decideData (now (m .entry))) (now (m .entry)) index r ⌝ }
 {
-    if data_sound(
+    let all = data_sound(
         m[places::TYPE],
         octets::be16(m, places::MESSAGE_COUNT),
         &m[HEADER_END..],
-    ) {
-        return Decision::Sound(m.len());
+        index,
+    );
+    if all.sound {
+        return Found {
+            decision: Decision::Sound(m.len()),
+            rest: all.rest,
+        };
     }
-    Decision::Faulty(numbers::FAULT_DATA, m.len())
+    unfound(Decision::Faulty(numbers::FAULT_DATA, m.len()))
 }
 
 // s has a whole header.
-fn decide_header(s: &[u8]) -> Decision
+fn decide_header(s: &[u8], index: usize) -> Found
     requires { ⌜ 10 ≤ length (now s) ⌝ }
-    ensures { λ r. ⌜ r ≡ decideHeader (headerFault (now (s .entry))) (now (s .entry)) ⌝ }
+    ensures { λ r. ⌜ Finds (decideHeader (headerFault (now (s .entry))) (now (s .entry))) (now (s .entry)) index r ⌝ }
 {
     let fault = header_fault(s);
     if fault != 0 {
-        return Decision::Faulty(fault, HEADER_END);
+        return unfound(Decision::Faulty(fault, HEADER_END));
     }
     let n = octets::be32(s, places::SIZE) as usize + 1;
     if s.len() < n {
-        return Decision::Undecided;
+        return unfound(Decision::Undecided);
     }
-    decide_data(&s[..n])
+    decide_data(&s[..n], index)
 }
 
-// What the bytes at the front of s decide.
-pub fn decide(s: &[u8]) -> Decision
+// A header stands at the front of s.
+fn has_header(s: &[u8]) -> bool
+    ensures { λ r. ⌜ r ≡ hasHeader (now (s .entry)) ⌝ }
+{
+    if s.len() < HEADER_END {
+        return false;
+    }
+    s[0] == SYNC
+}
+
+// What is decided where there is no header: a wrong first byte, or nothing yet.
+fn decide_start(s: &[u8]) -> Decision
+    requires { ⌜ hasHeader (now s) ≡ false ⌝ }
     ensures { λ r. ⌜ r ≡ decide (now (s .entry)) ⌝ }
 {
     if s.len() == 0 {
@@ -258,10 +348,27 @@ pub fn decide(s: &[u8]) -> Decision
     if s[0] != SYNC {
         return Decision::Faulty(numbers::FAULT_START, 1);
     }
-    if s.len() < HEADER_END {
-        return Decision::Undecided;
+    Decision::Undecided
+}
+
+// What the bytes at the front of s decide.
+pub fn decide(s: &[u8]) -> Decision
+    ensures { λ r. ⌜ r ≡ decide (now (s .entry)) ⌝ }
+{
+    if has_header(s) {
+        return decide_header(s, NO_ENTRY).decision;
     }
-    decide_header(s)
+    decide_start(s)
+}
+
+// The same, and where entry index stands: it is found by the walk that decides.
+pub fn find(s: &[u8], index: usize) -> Found
+    ensures { λ r. ⌜ Finds (decide (now (s .entry))) (now (s .entry)) index r ⌝ }
+{
+    if has_header(s) {
+        return decide_header(s, index);
+    }
+    unfound(decide_start(s))
 }
 
 // The laws of the deciding byte that a stream of messages needs.

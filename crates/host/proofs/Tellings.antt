@@ -33,6 +33,6 @@ pub written-told : (o : Writing) (r : answer.Written) (buf : List ℕ) (w : Writ
 written-told o r buf w e q =
     (q ∙ ap (λ (x : Writing). writtenOf (x .answer)) e, ap (λ (x : Writing). x .buffer) e)
 
-pub part-told : (s p : List ℕ) (i a : ℕ) → a ≡ partStart s i → p ≡ partOf s i → partWith a (length p) ≡ partFrom s i
+pub part-told : (s : List ℕ) (i a l : ℕ) → a ≡ partStart s i → l ≡ length (partOf s i) → partWith a l ≡ partFrom s i
 unfolding partFrom
-part-told s p i a q e = ap₂ partWith q (ap length e)
+part-told s i a l q e = ap₂ partWith q e

@@ -213,10 +213,10 @@ pub extern "C" fn melorwyth_read_entry(bytes: &[u8], index: usize) -> Entry
 pub extern "C" fn melorwyth_entry_part(bytes: &[u8], index: usize) -> Part
     ensures { λ r. ⌜ PartHands (now (bytes .entry)) index r ⌝ }
 {
-    let part = reader::entry_part(bytes, index);
+    let part = reader::part_place(bytes, index);
     Part {
-        start: reader::part_start(bytes, index),
-        length: part.len(),
+        start: part.start,
+        length: part.length,
     }
 }
 

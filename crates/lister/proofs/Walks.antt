@@ -9,20 +9,21 @@ use lib.Seq.{sets, length-take-le, drop-drop}
 use Rattle.frame.specs.Decide.{decide}
 use Rattle.frame.specs.declared.Decision.{Decision}
 use Rattle.frame.specs.declared.Decision.the-variants.{Undecided, Faulty, Sound}
+use Rattle.frame.proofs.Ways.{none, way-back}
 use Rattle.frame.proofs.Sounds.{sound-at, type-take, count-take, size-take}
 use Rattle.reader.specs.Numbers.{messageNumbers, readingNumbers}
 use Rattle.reader.specs.Read.{readOf}
 use Rattle.reader.specs.declared.Message.{Message}
-use Rattle.reader.specs.declared.Reading.the-variants.{Read}
+use Rattle.reader.specs.declared.Reading.the-variants.{Read, Fault, Short}
 use Rattle.lines.specs.Text.{messageLine}
 use Rattle.lines.specs.Scaffold.{Puts, PutsLine}
 use Rattle.lines.proofs.Putting.{puts-none, puts-then}
 use Rattle.split.specs.Split.{soundMessages}
 use Rattle.split.proofs.Splits.{sound-none, sound-then}
-use Rattle.lister.specs.Listing.{bytesOf, lineOf, linesOf}
-use Rattle.lister.specs.Scaffold.{soundFirst, firstOf, Lists}
+use Rattle.lister.specs.Listing.{bytesOf, lineOf, linesOf, listedBytes, unlisted}
+use Rattle.lister.specs.Scaffold.{soundFirst, firstOf, faultBy, Lists}
 use Rattle.lister.specs.declared.Listed.{Listed}
-use Rattle.lister.proofs.Readings.{read-sound, read-told, read-size}
+use Rattle.lister.proofs.Readings.{read-sound, read-told, read-size, read-fault, read-short, fault-unsound, short-unsound}
 
 -- no sound message stands at the front of s
 abbrev pub Unsound : List ℕ → Type 0
@@ -30,6 +31,10 @@ Unsound s = (n : ℕ) → decide s ≡ Sound n → ⊥
 
 pub nothing-unsound : (s : List ℕ) → length s ≤ 0 → Unsound s
 nothing-unsound s h n e = let w = sound-at s n e in omega (arith, w .low, w .high)
+
+pub nothing-fault : (s : List ℕ) → length s ≤ 0 → 0 ≡ faultBy (decide s)
+unfolding faultBy
+nothing-fault s h = sym (ap faultBy (way-back s Undecided (none (omega arith))))
 
 first-none : (d : Decision) (s : List ℕ) → ((n : ℕ) → d ≡ Sound n → ⊥) → soundFirst d s ≡ []
 unfolding soundFirst
@@ -100,41 +105,55 @@ module _ {s before out out′ rest : List ℕ} {offset used put : ℕ} {r : List
         room = omega (arith, l .room, w .room);
       }
 
--- nothing sound is left
-pub walked-all : {s before out : List ℕ} {offset used put : ℕ} → Walked s offset before used put out → Unsound (drop used s)
-    → Lists (soundMessages s) s offset before 0 out (record { used = used; put = put })
-walked-all {s} {before} {out} {offset} {used} {put} w u =
+-- nothing sound is left, and what is left has the fault f
+pub walked-all : {s before out : List ℕ} {offset used put f : ℕ} → Walked s offset before used put out → Unsound (drop used s) → f ≡ faultBy (decide (drop used s))
+    → Lists (soundMessages s) s offset before 0 out (record { used = used; put = put; fault = f }) × (f ≡ faultBy (decide (unlisted s)))
+unfolding unlisted listedBytes
+walked-all {s} {before} {out} {offset} {used} {put} {f} w u g =
     let e : soundMessages s ≡ w .done = w .left ∙ rw (sound-none (drop used s) u) (append-nil (w .done)) in
-    record {
-      used = w .bytes ∙ ap bytesOf (sym e);
-      within = w .within;
-      puts = rw e (w .puts);
-      room = omega (arith, w .room);
-    }
+    let b : used ≡ bytesOf (soundMessages s) = w .bytes ∙ ap bytesOf (sym e) in (
+      record {
+        used = b;
+        within = w .within;
+        puts = rw e (w .puts);
+        room = omega (arith, w .room);
+      },
+      g ∙ ap (λ (k : ℕ). faultBy (decide (drop k s))) b,
+    )
 
 -- the walk stops where the first message left is not sound
 pub walked-stop : {s before out out′ rest : List ℕ} {offset used put : ℕ} {r : Listed} → Walked s offset before used put out
-    → rest ≡ drop used s → Lists (firstOf rest) rest (offset + used) out put out′ r → r .used ≡ 0
-    → Lists (soundMessages s) s offset before 0 out′ (record { used = used; put = put })
+    → rest ≡ drop used s → Lists (firstOf rest) rest (offset + used) out put out′ r → r .used ≡ 0 → r .fault ≡ faultBy (decide rest)
+    → Lists (soundMessages s) s offset before 0 out′ (record { used = used; put = put; fault = r .fault }) × (r .fault ≡ faultBy (decide (unlisted s)))
 unfolding linesOf firstOf
-walked-stop {s} {before} {out} {out′} {rest} {offset} {used} {put} {r} w e l z =
+walked-stop {s} {before} {out} {out′} {rest} {offset} {used} {put} {r} w e l z g =
     let u = first-unsound rest (sym (l .used) ∙ z) in
     let o : out′ ≡ out = l .puts .text ∙ ap (λ (ms : List (List ℕ)). sets out put (linesOf (offset + used) ms)) (first-none (decide rest) rest u) in
-    rw o (walked-all w (rw e at u))
+    rw o (walked-all w (rw e at u) (rw e at g))
 
 module _ (s : List ℕ) (offset : ℕ) (out : List ℕ) (at : ℕ) where
-  pub first-not : Unsound s → Lists (firstOf s) s offset out at out (record { used = 0; put = at })
+  first-not : {f : ℕ} → Unsound s → Lists (firstOf s) s offset out at out (record { used = 0; put = at; fault = f })
   unfolding firstOf bytesOf linesOf
   first-not u =
       rw (first-none (decide s) s u)
       (record { used = refl; within = omega arith; puts = puts-none out at; room = omega arith })
 
+  pub first-fault : (f : ℕ) → readingNumbers (Fault f) ≡ readOf s
+      → Lists (firstOf s) s offset out at out (record { used = 0; put = at; fault = f }) × (f ≡ faultBy (decide s))
+  unfolding faultBy
+  first-fault f e = (first-not (fault-unsound s f e), sym (ap faultBy (read-fault s f e .1)))
+
+  pub first-short : readingNumbers Short ≡ readOf s
+      → Lists (firstOf s) s offset out at out (record { used = 0; put = at; fault = 0 }) × (0 ≡ faultBy (decide s))
+  unfolding faultBy
+  first-short e = (first-not (short-unsound s e), sym (ap faultBy (read-short s e)))
+
   -- a line was put for the message that the reader told
   pub first-listed : (m : Message) (n : ℕ) → readingNumbers (Read m n) ≡ readOf s
       → {kind count r : ℕ} {after : List ℕ} → kind ≡ getD (messageNumbers m) 0 0 → count ≡ getD (messageNumbers m) 1 0
       → PutsLine (messageLine offset kind count (n - 1)) out at after r
-      → Lists (firstOf s) s offset out at after (record { used = n; put = r })
-  unfolding firstOf soundFirst bytesOf linesOf lineOf
+      → Lists (firstOf s) s offset out at after (record { used = n; put = r; fault = 0 }) × (0 ≡ faultBy (decide s))
+  unfolding firstOf soundFirst faultBy bytesOf linesOf lineOf
   first-listed m n e {kind} {count} {r} {after} k c p =
       let d = read-sound s m n e in
       let t = read-told s m n e in
@@ -143,10 +162,12 @@ module _ (s : List ℕ) (offset : ℕ) (out : List ℕ) (at : ℕ) where
       let b : length (take n s) + 0 ≡ n = add-zero (length (take n s)) ∙ length-take-le n s (z .1) in
       let line : messageLine offset kind count (n - 1) ≡ lineOf offset (take n s) =
       rw (type-take n s low, count-take n s low, size-take n s low, k ∙ t .kind, c ∙ t .count, z .2) in
-      rw d
-      (record {
-        used = sym b;
-        within = z .1;
-        puts = rw (append-nil (lineOf offset (take n s)), ← line) (p .puts);
-        room = omega (arith, p .room, low);
-      })
+      rw d (
+        record {
+          used = sym b;
+          within = z .1;
+          puts = rw (append-nil (lineOf offset (take n s)), ← line) (p .puts);
+          room = omega (arith, p .room, low);
+        },
+        refl,
+      )

@@ -2,6 +2,8 @@
 use Prim.Native.Nat.{ℕ, _+_, _*_, _≤_}
 use mathlib.Core.Path.{_≡_}
 use mathlib.Core.List.{List, [], _∷_}
+use mathlib.Core.Bool.{cond}
+use lib.Dec.{eqb}
 use lib.ListN.{length, take}
 use Rattle.frame.specs.Decide.{decide}
 use Rattle.frame.specs.declared.Decision.{Decision}
@@ -19,6 +21,16 @@ soundFirst (Sound n) s = take n s ∷ []
 -- R78. The message at the front of s, if it is sound.
 unfoldable pub firstOf : List ℕ → List (List ℕ)
 firstOf s = soundFirst (decide s) s
+
+-- The fault of bytes that decide d; 0 where they have none.
+unfoldable pub faultBy : Decision → ℕ
+faultBy Undecided = 0
+faultBy (Faulty f n) = f
+faultBy (Sound n) = 0
+
+-- What bytes that are not sound decide, by their fault; how many of them it takes is left out.
+unfoldable pub stoppedBy : ℕ → Decision
+stoppedBy fault = cond (eqb fault 0) Undecided (Faulty fault 0)
 
 -- ms, messages at the front of s, which stands from the offset on, were listed.
 pub record Lists (ms : List (List ℕ)) (s : List ℕ) (offset : ℕ) (before : List ℕ) (at : ℕ) (after : List ℕ) (r : Listed) : Type 0 where

@@ -1,3 +1,4 @@
 pub mod Sounds
 pub mod Tells
 pub mod Starts
+pub mod Places

@@ -53,7 +53,7 @@ unfolding entriesFrom
 from-ends zero k t = ends-self t
 from-ends (suc i) k t = ends-drop (entriesFrom i k (drop (entrySize k t) t)) (entrySize k t) t (from-ends i k (drop (entrySize k t) t))
 
-size-fits : (k : ℕ) (t : List ℕ) → entrySize k t ≤ length t
+pub size-fits : (k : ℕ) (t : List ℕ) → entrySize k t ≤ length t
 size-fits k t = go (eqb (entrySize k t) 0) refl
   where
     go : (b : Bool) → eqb (entrySize k t) 0 ≡ b → entrySize k t ≤ length t
@@ -66,10 +66,9 @@ entries-fit s n i w =
     let t = take n s in
     omega (arith, from-ends i (pduType s) (dataOf s n) .fits, length-drop headerEnd t, length-take-le n s (w .high), w .size, sound-header s (w .header) .high)
 
--- an entry's parameters, found from the message's start
-placed : (s : List ℕ) (n k size : ℕ) (u : List ℕ) → headerEnd ≤ n → n ≤ length s → size ≤ length u → Ends u (dataOf s n)
-    → take (size - k) (drop ((n - length u) + k) s) ≡ drop k (take size u)
-placed s n k size u low high small w =
+-- the end of a message's data, found from the message's start
+pub end-placed : (s : List ℕ) (n : ℕ) (u : List ℕ) → headerEnd ≤ n → n ≤ length s → Ends u (dataOf s n) → take (length u) (drop (n - length u) s) ≡ u
+end-placed s n u low high w =
     let m = n - length u in
     let t = take n s in
     let c : length (dataOf s n) ≡ n - headerEnd = omega (arith, length-drop headerEnd t, length-take-le n s high) in
@@ -77,7 +76,14 @@ placed s n k size u low high small w =
     let d : n - m ≡ length u = omega (arith, c, w .fits) in
     -- the end of the message, and the end of the caller's bytes cut to its length
     let a : drop m t ≡ u = ap (λ (j : ℕ). drop j t) (sym e) ∙ sym (drop-drop (length (dataOf s n) - length u) headerEnd t) ∙ w .there in
-    let b : take (length u) (drop m s) ≡ u = ap (λ (j : ℕ). take j (drop m s)) (sym d) ∙ sym (drop-take m n s) ∙ a in
+    ap (λ (j : ℕ). take j (drop m s)) (sym d) ∙ sym (drop-take m n s) ∙ a
+
+-- an entry from place k of it on: its parameters, or all of it
+pub placed : (s : List ℕ) (n k size : ℕ) (u : List ℕ) → headerEnd ≤ n → n ≤ length s → size ≤ length u → Ends u (dataOf s n)
+    → take (size - k) (drop ((n - length u) + k) s) ≡ drop k (take size u)
+placed s n k size u low high small w =
+    let m = n - length u in
+    let b = end-placed s n u low high w in
     ap (λ (l : List ℕ). take (size - k) l) (sym (drop-drop k m s)) ∙ sym (drop-take k size (drop m s))
     ∙ ap (λ (l : List ℕ). drop k l) (sym (take-take size (length u) (drop m s) small) ∙ ap (λ (l : List ℕ). take size l) b)
 

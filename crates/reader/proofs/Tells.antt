@@ -1,6 +1,6 @@
 -- The numbers of an answer tell it from every other. Assumes nothing.
 use Prim.Native.Nat.{ℕ, _+_}
-use mathlib.Core.Path.{_≡_, refl, sym, ap, _∙_}
+use mathlib.Core.Path.{_≡_, refl, sym, ap, ap₂, _∙_}
 use mathlib.Core.List.{List}
 use mathlib.Core.Bool.{cond}
 use lib.ListN.{getD, drop}
@@ -98,4 +98,5 @@ numbers-tell =
       entry = λ s i a b p q. entry-tells a b (p ∙ sym q);
       part = λ s i a b p q. p ∙ sym q;
       start = λ s i a b p q. p ∙ sym q;
+      place = λ s i a b p q. ap₂ (λ (x y : ℕ). record { start = x; length = y }) (p .0 ∙ sym (q .0)) (p .1 ∙ sym (q .1));
     }

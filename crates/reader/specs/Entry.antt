@@ -16,6 +16,7 @@ use Rattle.fields.specs.Fields.{commandOf, notificationOf, responseOf}
 use Rattle.numbers.specs.Refusal.{notRefused, fault, short, noEntry}
 use Rattle.reader.specs.Numbers.{commandNumbers, notificationNumbers, responseNumbers, entryNumbers}
 use Rattle.reader.specs.declared.Entry.{Entry}
+use Rattle.reader.specs.declared.Part.{Part}
 use Rattle.reader.specs.Read.{dataOf}
 
 -- R20. The message has an entry i; else refusal 12.
@@ -88,6 +89,10 @@ GivesPart s i part = part ≡ partOf s i
 -- R22, R68. What asking where that part starts promises.
 abbrev pub TellsStart : List ℕ → ℕ → ℕ → Type 0
 TellsStart s i at = at ≡ partStart s i
+
+-- R21, R22, R68. What asking where that part stands promises: its start and its length.
+abbrev pub PlacesPart : List ℕ → ℕ → Part → Type 0
+PlacesPart s i r = (r .start ≡ partStart s i) × (r .length ≡ length (partOf s i))
 
 -- Theorem. From its start on, as long as it is, the caller's bytes are the part, and they have that many.
 pub record PartStands : Type 0 where

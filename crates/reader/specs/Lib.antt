@@ -1,5 +1,6 @@
 pub mod Numbers
 pub mod Read
 pub mod Entry
+pub mod Scaffold
 pub mod Tell
 pub mod Examples

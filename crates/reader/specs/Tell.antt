@@ -5,10 +5,11 @@ use mathlib.Core.List.{List}
 use Rattle.heartbeat.specs.declared.Heartbeat.{Heartbeat}
 use Rattle.reader.specs.Numbers.{heartbeatNumbers, messageNumbers, readingNumbers, entryNumbers}
 use Rattle.reader.specs.Read.{ReadsMessage}
-use Rattle.reader.specs.Entry.{ReadsEntry, GivesPart, TellsStart}
+use Rattle.reader.specs.Entry.{ReadsEntry, GivesPart, TellsStart, PlacesPart}
 use Rattle.reader.specs.declared.Message.{Message}
 use Rattle.reader.specs.declared.Reading.{Reading}
 use Rattle.reader.specs.declared.Entry.{Entry}
+use Rattle.reader.specs.declared.Part.{Part}
 
 -- Theorem. No two answers of the reader have the same numbers; two answers that a call's promise allows are equal.
 pub record NumbersTell : Type 0 where
@@ -20,3 +21,4 @@ pub record NumbersTell : Type 0 where
   pub entry : (s : List ℕ) (i : ℕ) (a b : Entry) → ReadsEntry s i a → ReadsEntry s i b → a ≡ b
   pub part : (s : List ℕ) (i : ℕ) (a b : List ℕ) → GivesPart s i a → GivesPart s i b → a ≡ b
   pub start : (s : List ℕ) (i a b : ℕ) → TellsStart s i a → TellsStart s i b → a ≡ b
+  pub place : (s : List ℕ) (i : ℕ) (a b : Part) → PlacesPart s i a → PlacesPart s i b → a ≡ b

@@ -10,13 +10,11 @@ ghost use mathlib.Core.List.{[], _∷_};
 ghost use Prim.Native.Nat.{_≤_};
 ghost use lib.ListN.{length};
 ghost use Rattle.frame.specs.Entry.{leastEntry};
-ghost use Rattle.frame.specs.Header.{pduType};
 ghost use Rattle.frame.specs.Scaffold.{SoundAt};
-ghost use Rattle.fields.specs.Place.{entriesFrom};
 ghost use Rattle.reader.specs.Numbers.{messageNumbers, entryNumbers};
-ghost use Rattle.reader.specs.Read.{dataOf, messageOf, ReadsMessage};
-ghost use Rattle.reader.specs.Entry.{hasEntry, fieldsOf, entryAt, entryIn, partIn};
-ghost use Rattle.reader.specs.Entry.{partStartIn, ReadsEntry, GivesPart, TellsStart, PartStands};
+ghost use Rattle.reader.specs.Read.{messageOf, ReadsMessage};
+ghost use Rattle.reader.specs.Entry.{fieldsOf, ReadsEntry, GivesPart, TellsStart, PlacesPart, PartStands};
+ghost use Rattle.reader.specs.Scaffold.{placeAt, entryPlace, RestStands};
 ghost use Rattle.reader.specs.Tell.{NumbersTell};
 ghost use Rattle.reader.specs.Examples.{ExamplesRead};
 
@@ -43,6 +41,28 @@ pub enum Entry {
     Fault(u8),
     Short,
     NoEntry,
+}
+
+// Where an entry stands in the caller's bytes, up to the byte behind its last; or why it is refused.
+enum Place {
+    At(usize, usize),
+    Fault(u8),
+    Short,
+    NoEntry,
+}
+
+// Where an entry's part stands in the caller's bytes.
+pub struct Part {
+    pub start: usize,
+    pub length: usize,
+}
+
+impl Part {
+    // The part of an entry that is refused.
+    pub const NONE: Part = Part {
+        start: 0,
+        length: 0,
+    };
 }
 
 fn message_of(kind: u8, count: u16) -> Message
@@ -79,23 +99,6 @@ pub fn read_message(s: &[u8]) -> Reading
     }
 }
 
-fn has_entry(kind: u8, count: u16, index: usize) -> bool
-    ensures { λ r. ⌜ r ≡ hasEntry kind count index ⌝ }
-{
-    if kind == frame::KEEP_ALIVE {
-        return false;
-    }
-    index < count as usize
-}
-
-// Entry index of the sound message of n bytes at the front of s.
-fn entry_at<'a>(s: &'a [u8], n: usize, index: usize) -> &'a [u8]
-    requires { ⌜ SoundAt (now s) n ⌝ }
-    ensures { λ r. ⌜ now r ≡ entryAt (now (s .entry)) n index ⌝ }
-{
-    fields::entry_bytes(&s[frame::HEADER_END..n], s[places::TYPE], index)
-}
-
 fn fields_of(kind: u8, e: &[u8]) -> Entry
     requires { ⌜ leastEntry kind ≤ length (now e) ⌝ }
     ensures { λ r. ⌜ entryNumbers r ≡ fieldsOf kind (now (e .entry)) ⌝ }
@@ -109,88 +112,76 @@ fn fields_of(kind: u8, e: &[u8]) -> Entry
     Entry::Response(fields::response_of(e))
 }
 
-fn entry_in(s: &[u8], n: usize, index: usize) -> Entry
-    requires { ⌜ SoundAt (now s) n ⌝ }
-    ensures { λ r. ⌜ entryNumbers r ≡ entryIn (now (s .entry)) n index ⌝ }
+// The entry from whose first byte on `rest` of the message's n bytes stand: none where that is 0.
+fn place_in(s: &[u8], n: usize, rest: usize) -> Place
+    requires { ⌜ RestStands (now s) n rest ⌝ }
+    ensures { λ r. ⌜ r ≡ placeAt (now (s .entry)) n rest ⌝ }
 {
-    if has_entry(
-        s[places::TYPE],
-        octets::be16(s, places::MESSAGE_COUNT),
-        index,
-    ) {
-        return fields_of(s[places::TYPE], entry_at(s, n, index));
+    if rest == 0 {
+        return Place::NoEntry;
     }
-    Entry::NoEntry
+    let from = n - rest;
+    Place::At(from, from + frame::given_size(&s[from..]))
+}
+
+// Where entry index of the message at the front of s stands: found by the walk that decides the message, for every call below.
+fn place_of(s: &[u8], index: usize) -> Place
+    ensures { λ r. ⌜ r ≡ entryPlace (now (s .entry)) index ⌝ }
+{
+    let found = frame::find(s, index);
+    let decision = found.decision;
+    match decision {
+        Decision::Undecided => Place::Short,
+        Decision::Faulty(f, _) => Place::Fault(f),
+        Decision::Sound(n) => place_in(s, n, found.rest),
+    }
 }
 
 // Entry index of the message at the front of s.
 pub fn read_entry(s: &[u8], index: usize) -> Entry
     ensures { λ r. ⌜ ReadsEntry (now (s .entry)) index r ⌝ }
 {
-    match frame::decide(s) {
-        Decision::Undecided => Entry::Short,
-        Decision::Faulty(f, _) => Entry::Fault(f),
-        Decision::Sound(n) => entry_in(s, n, index),
+    match place_of(s, index) {
+        Place::At(from, end) => fields_of(s[places::TYPE], &s[from..end]),
+        Place::Fault(f) => Entry::Fault(f),
+        Place::Short => Entry::Short,
+        Place::NoEntry => Entry::NoEntry,
     }
 }
 
-fn part_in<'a>(s: &'a [u8], n: usize, index: usize) -> &'a [u8]
-    requires { ⌜ SoundAt (now s) n ⌝ }
-    ensures { λ r. ⌜ now r ≡ partIn (now (s .entry)) n index ⌝ }
+// R21, R22. Where the parameters of entry index stand in s.
+pub fn part_place(s: &[u8], index: usize) -> Part
+    ensures { λ r. ⌜ PlacesPart (now (s .entry)) index r ⌝ }
 {
-    if has_entry(
-        s[places::TYPE],
-        octets::be16(s, places::MESSAGE_COUNT),
-        index,
-    ) {
-        return fields::parameters(s[places::TYPE], entry_at(s, n, index));
+    match place_of(s, index) {
+        Place::At(from, end) => {
+            let start = from + frame::least_entry(s[places::TYPE]);
+            Part {
+                start,
+                length: end - start,
+            }
+        }
+        Place::Fault(_) => Part::NONE,
+        Place::Short => Part::NONE,
+        Place::NoEntry => Part::NONE,
     }
-    &s[..0]
 }
 
 // R21. The parameters of entry index, as a slice of s; empty where it is refused.
 pub fn entry_part<'a>(s: &'a [u8], index: usize) -> &'a [u8]
     ensures { λ r. ⌜ GivesPart (now (s .entry)) index (now r) ⌝ }
 {
-    match frame::decide(s) {
-        Decision::Undecided => &s[..0],
-        Decision::Faulty(_, _) => &s[..0],
-        Decision::Sound(n) => part_in(s, n, index),
-    }
-}
-
-// The data of the sound message of n bytes from entry index on.
-fn entries_at<'a>(s: &'a [u8], n: usize, index: usize) -> &'a [u8]
-    requires { ⌜ SoundAt (now s) n ⌝ }
-    ensures { λ r. ⌜ now r ≡ entriesFrom index (pduType (now (s .entry))) (dataOf (now (s .entry)) n) ⌝ }
-{
-    fields::entries_from(&s[frame::HEADER_END..n], s[places::TYPE], index)
-}
-
-fn start_in(s: &[u8], n: usize, index: usize) -> usize
-    requires { ⌜ SoundAt (now s) n ⌝ }
-    ensures { λ r. ⌜ r ≡ partStartIn (now (s .entry)) n index ⌝ }
-{
-    if has_entry(
-        s[places::TYPE],
-        octets::be16(s, places::MESSAGE_COUNT),
-        index,
-    ) {
-        let entries = entries_at(s, n, index);
-        return n - entries.len() + frame::least_entry(s[places::TYPE]);
-    }
-    0
+    let part = part_place(s, index);
+    let start = part.start;
+    let end = start + part.length;
+    &s[start..end]
 }
 
 // Where entry index's part starts in s, for a caller that cannot be handed a slice: 0 where the entry is refused.
 pub fn part_start(s: &[u8], index: usize) -> usize
     ensures { λ r. ⌜ TellsStart (now (s .entry)) index r ⌝ }
 {
-    match frame::decide(s) {
-        Decision::Undecided => 0,
-        Decision::Faulty(_, _) => 0,
-        Decision::Sound(n) => start_in(s, n, index),
-    }
+    part_place(s, index).start
 }
 
 // The bytes from there on, as many as the part has, are the part.

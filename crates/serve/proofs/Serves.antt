@@ -10,6 +10,7 @@ use lib.Dec.{eqb}
 use lib.ListN.{length, take, drop, length-append}
 use lib.Seq.{sets, length-sets, length-take-le}
 use Rattle.laws.proofs.Stores.{sets-append}
+use Rattle.octets.specs.Numbers.{be32At}
 use Rattle.frame.specs.Limits.{leastResponse}
 use Rattle.frame.specs.Entry.{entrySize, entriesFill}
 use Rattle.frame.proofs.Entries.{entry-at, entries-first, least-command}
@@ -31,15 +32,15 @@ pub first-fits : (d : Device) (n kind : ℕ) (t : List ℕ) → Fitting (ranFirs
 unfolding ranFirst ranWith
 first-fits d n kind t = run-fits d n _ _ _ _
 
--- a command's entry, where some are left
-pub first-long : (left kind : ℕ) (t : List ℕ) → kind < 2 → 0 < left → entriesFill left kind t ≡ true
-    → (17 ≤ entrySize kind t) × (entrySize kind t ≤ length t) × (length (take (entrySize kind t) t) ≡ entrySize kind t)
-first-long zero kind t k h e = absurd (not-suc-le-zero h)
-first-long (suc left) kind t k h e =
+-- the size that the first entry gives, where some are left, is its size
+pub size-given : (left kind : ℕ) (t : List ℕ) (size : ℕ) → kind < 2 → 0 < left → entriesFill left kind t ≡ true → size ≡ be32At t 0
+    → (size ≡ entrySize kind t) × (17 ≤ size) × (size ≤ length t) × (length (take size t) ≡ size)
+size-given zero kind t size k h e g = absurd (not-suc-le-zero h)
+size-given (suc left) kind t size k h e g =
     let w = entry-at kind t (entries-first left kind t e .0) in
     let l = least-command kind k in
-    let z : entrySize kind t ≤ length t = omega (arith, w .size, w .high) in
-    (omega (arith, w .size, w .low), z, length-take-le (entrySize kind t) t z)
+    let z : size ≤ length t = omega (arith, w .high) in
+    (g ∙ sym (w .size), omega (arith, w .low), z, length-take-le size t z)
 
 fill-rest : (left kind : ℕ) (t : List ℕ) → 0 < left → entriesFill left kind t ≡ true → entriesFill (left - 1) kind (drop (entrySize kind t) t) ≡ true
 fill-rest zero kind t h e = absurd (not-suc-le-zero h)

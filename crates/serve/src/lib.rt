@@ -68,7 +68,7 @@ fn serve(device: Device, n: u8, kind: u8, count: u16, body: &[u8], out: &mut [u8
     let mut left = count;
     let mut at: usize = 10;
     while 0 < left {
-        let size = frame::entry_size(t, kind);
+        let size = frame::given_size(t);
         let e = &t[..size];
         let c = fields::command_of(e);
         let method = c.method;

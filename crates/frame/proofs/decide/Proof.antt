@@ -1,44 +1,26 @@
-use Rattle.frame.specs.Limits.{sync, headerEnd}
-use lib.ListN.{length, getD}
+use Rattle.frame.proofs.Ways.{headed}
+use mathlib.Core.Path.{sym, _∙_}
 use denote.Ref.{now}
-use native.Mathlib.Omega.{arith}
-use borrow.Author.Tests.{lt-ltb, le-ltb, eq-eqb, ne-eqb}
-use Rattle.frame.specs.Decide.{decide}
 use borrow.Author.Needs.{needs}
 use Rattle.frame.proofs.decide.Statement.{statement}
 use Rattle.frame.proofs.decide.Tie as tie
 
-returns : tie.Need-returns
-unfolding decide
-returns c =
-    let s = now (c .before .before .args .s) in
-    simp (eq-eqb (length s) 0 (omega arith))
-
-shared-slice-read-if2 : tie.Need-shared-slice-read-if2
-shared-slice-read-if2 c = search needs
-
-returns-2 : tie.Need-returns-2
-unfolding decide
-returns-2 c =
-    let s = now (c .before .before .before .before .args .s) in
-    simp (ne-eqb (length s) 0 (λ e. omega arith), ne-eqb (getD s 0 0) sync (λ e. omega arith))
-
-returns-3 : tie.Need-returns-3
-unfolding decide
-returns-3 c =
-    let s = now (c .before .before .before .before .before .args .s) in
-    simp (ne-eqb (length s) 0 (λ e. omega arith), eq-eqb (getD s 0 0) sync (omega arith), lt-ltb (length s) headerEnd (omega arith))
+has-header-requires : tie.Need-has-header-requires
+has-header-requires c κs = search needs
 
 decide-header-requires : tie.Need-decide-header-requires
-decide-header-requires c κs = search needs
+decide-header-requires c κs = headed (now (c .before .before .before .args .s)) (sym (c .before .has-header .ensures) ∙ c .if1 .taken) .0
 
-returns-4 : tie.Need-returns-4
-unfolding decide
-returns-4 c =
-    let s = now (c .before .before .before .before .before .before .args .s) in
-    simp (ne-eqb (length s) 0 (λ e. omega arith), eq-eqb (getD s 0 0) sync (omega arith), le-ltb (length s) headerEnd (omega arith)) (cc)
+returns : tie.Need-returns
+returns c = c .decide-header .ensures .decided ∙ sym (headed (now (c .before .before .before .before .args .s)) (sym (c .before .before .has-header .ensures) ∙ c .before .if1 .taken) .1)
+
+decide-start-requires : tie.Need-decide-start-requires
+decide-start-requires c κs = sym (c .before .has-header .ensures) ∙ c .if1 .left
+
+returns-2 : tie.Need-returns-2
+returns-2 c = search needs
 
 pub decide-spec : {M : Type 1} → statement M
 decide-spec =
     tie.close
-    (tie.spec returns shared-slice-read-if2 returns-2 returns-3 decide-header-requires returns-4)
+    (tie.spec has-header-requires decide-header-requires returns decide-start-requires returns-2)

@@ -1,8 +1,10 @@
 use Rattle.frame.specs.Limits.{headerEnd}
 use Rattle.frame.specs.Header.{pduType, messageCount}
 use Rattle.frame.specs.Decide.{dataSound, decideData}
+use Rattle.frame.specs.Scaffold.{messageRest}
 use Rattle.laws.proofs.Parts.{rest}
-use mathlib.Core.Path.{_≡_}
+use Rattle.frame.proofs.Walks.{rest-sound, rest-faulty}
+use mathlib.Core.Path.{_≡_, sym, _∙_}
 use mathlib.Core.Bool.{true, false}
 use lib.ListN.{drop}
 use denote.Ref.{now}
@@ -29,18 +31,21 @@ data-sound-requires : tie.Need-data-sound-requires
 data-sound-requires c κs = search needs
 
 returns : tie.Need-returns
-unfolding decideData
+unfolding decideData messageRest
 returns c =
     let m = now (c .before .before .before .before .before .before .args .m) in
     let ok : dataSound (pduType m) (messageCount m) (drop headerEnd m) ≡ true = cc (rest headerEnd m) in
-    simp ok
+    record { decided = simp ok; rest = let i = c .before .before .before .before .before .before .args .index in cc (rest-sound m i ok, rest headerEnd m) }
+
+unfound-requires : tie.Need-unfound-requires
+unfound-requires c κs = search needs
 
 returns-2 : tie.Need-returns-2
 unfolding decideData
 returns-2 c =
-    let m = now (c .before .before .before .before .before .before .args .m) in
+    let m = now (c .before .before .before .before .before .before .before .args .m) in
     let ok : dataSound (pduType m) (messageCount m) (drop headerEnd m) ≡ false = cc (rest headerEnd m) in
-    simp ok
+    record { decided = c .unfound .ensures .0 ∙ simp ok; rest = c .unfound .ensures .1 ∙ sym (rest-faulty m _ ok) }
 
 pub decide-data-spec : {M : Type 1} → statement M
 decide-data-spec =
@@ -53,4 +58,5 @@ decide-data-spec =
     part-data-sound-end
     data-sound-requires
     returns
+    unfound-requires
     returns-2)

@@ -1,5 +1,7 @@
 use Rattle.frame.specs.Header.{messageLength, headerFault}
+use Rattle.frame.specs.Scaffold.{restBy}
 use Rattle.frame.proofs.Headers.{sound-header}
+use Rattle.frame.proofs.Walks.{rest-front}
 use Prim.Native.Nat.{_+_}
 use mathlib.Core.Path.{sym}
 use lib.ListN.{length}
@@ -15,11 +17,14 @@ use Rattle.frame.proofs.decide_header.Tie as tie
 header-fault-requires : tie.Need-header-fault-requires
 header-fault-requires c κs = search needs
 
+unfound-requires : tie.Need-unfound-requires
+unfound-requires c κs = search needs
+
 returns : tie.Need-returns
-unfolding decideHeader
+unfolding decideHeader restBy
 returns c =
-    let s = now (c .before .before .before .args .s) in
-    simp (ne-eqb (headerFault s) 0 (λ e. omega arith)) (cc)
+    let s = now (c .before .before .before .before .args .s) in
+    simp (ne-eqb (headerFault s) 0 (λ e. omega arith)) (record { decided = cc; rest = cc })
 
 be32-requires : tie.Need-be32-requires
 be32-requires c κs = search needs
@@ -30,11 +35,14 @@ cast-n c = search needs
 add-n : tie.Need-add-n
 add-n c = search needs
 
+unfound-requires-2 : tie.Need-unfound-requires-2
+unfound-requires-2 c κs = search needs
+
 returns-2 : tie.Need-returns-2
-unfolding decideHeader
+unfolding decideHeader restBy
 returns-2 c =
-    let s = now (c .before .before .before .before .before .args .s) in
-    simp (eq-eqb (headerFault s) 0 (omega arith), lt-ltb (length s) (messageLength s) (omega arith))
+    let s = now (c .before .before .before .before .before .before .args .s) in
+    simp (eq-eqb (headerFault s) 0 (omega arith), lt-ltb (length s) (messageLength s) (omega arith)) (record { decided = cc; rest = cc })
 
 slice-aggregate-decide-data : tie.Need-slice-aggregate-decide-data
 slice-aggregate-decide-data c =
@@ -51,17 +59,20 @@ returns-3 : tie.Need-returns-3
 unfolding decideHeader
 returns-3 c =
     let s = now (c .before .before .before .before .before .before .before .args .s) in
-    simp (eq-eqb (headerFault s) 0 (omega arith), le-ltb (length s) (messageLength s) (omega arith)) (cc)
+    simp (eq-eqb (headerFault s) 0 (omega arith), le-ltb (length s) (messageLength s) (omega arith))
+    (record { decided = cc; rest = cc (rest-front (messageLength s) s (c .before .before .before .before .before .before .before .args .index) (omega arith)) })
 
 pub decide-header-spec : {M : Type 1} → statement M
 decide-header-spec =
     tie.close
     (tie.spec
     header-fault-requires
+    unfound-requires
     returns
     be32-requires
     cast-n
     add-n
+    unfound-requires-2
     returns-2
     slice-aggregate-decide-data
     decide-data-requires

@@ -22,11 +22,8 @@ returns c =
     let a = c .before .before .before .args in
     simp (lt-ltb (length (now (a .t))) (leastEntry (a .kind)) (omega arith)) (search needs)
 
-be32-requires : tie.Need-be32-requires
-be32-requires c κs = omega (arith, least-holds (c .before .before .before .args .kind) .0)
-
-cast-size : tie.Need-cast-size
-cast-size c = search needs
+given-size-requires : tie.Need-given-size-requires
+given-size-requires c κs = omega (arith, least-holds (c .before .before .before .args .kind) .0)
 
 count-place-requires : tie.Need-count-place-requires
 count-place-requires c κs = search needs
@@ -71,8 +68,7 @@ entry-size-spec =
     (tie.spec
     least-entry-requires
     returns
-    be32-requires
-    cast-size
+    given-size-requires
     count-place-requires
     shared-slice-read-entry-fits
     sub-entry-fits

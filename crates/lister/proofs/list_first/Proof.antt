@@ -4,8 +4,8 @@ use Rattle.reader.specs.Numbers.{readingNumbers}
 use Rattle.reader.specs.Read.{readOf}
 use Rattle.reader.specs.declared.Reading.the-variants.{Read, Fault, Short}
 use native.Mathlib.Omega.{arith}
-use Rattle.lister.proofs.Readings.{read-size, fault-unsound, short-unsound}
-use Rattle.lister.proofs.Walks.{first-listed, first-not}
+use Rattle.lister.proofs.Readings.{read-size}
+use Rattle.lister.proofs.Walks.{first-listed, first-fault, first-short}
 use borrow.Author.Needs.{needs}
 use Rattle.lister.proofs.list_first.Statement.{statement}
 use Rattle.lister.proofs.list_first.Tie as tie
@@ -44,11 +44,11 @@ cast-put-message c =
 put-message-requires : tie.Need-put-message-requires
 put-message-requires c κs = search needs
 
+enum-known-f : tie.Need-enum-known-f
+enum-known-f c = search needs
+
 enum-told : tie.Need-enum-told
 enum-told c = search needs
-
-enum-told-2 : tie.Need-enum-told-2
-enum-told-2 c = search needs
 
 same-length : tie.Need-same-length
 same-length c = search needs
@@ -64,18 +64,18 @@ returns c =
 
 returns-2 : tie.Need-returns-2
 returns-2 c =
-    let a = c .before .before .before .before .before .args in
+    let a = c .before .before .before .before .before .before .args in
     let s = now (a .s) in
-    let f = c .enum-told .given .0 .0 in
+    let f = c .before .f .given .0 .0 in
     let q : readingNumbers (Fault f) ≡ readOf s = cc in
-    first-not s (a .offset) (now (a .out)) (a .at) (fault-unsound s f q)
+    first-fault s (a .offset) (now (a .out)) (a .at) f q
 
 returns-3 : tie.Need-returns-3
 returns-3 c =
     let a = c .before .before .before .before .before .args in
     let s = now (a .s) in
     let q : readingNumbers Short ≡ readOf s = cc in
-    first-not s (a .offset) (now (a .out)) (a .at) (short-unsound s q)
+    first-short s (a .offset) (now (a .out)) (a .at) q
 
 pub list-first-spec : {M : Type 1} → statement M
 list-first-spec =
@@ -88,8 +88,8 @@ list-first-spec =
     sub-put-message
     cast-put-message
     put-message-requires
+    enum-known-f
     enum-told
-    enum-told-2
     same-length
     returns
     returns-2

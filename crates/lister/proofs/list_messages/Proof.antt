@@ -3,8 +3,8 @@ use denote.Ref.{now}
 use lib.ListN.{drop, length-drop}
 use Rattle.laws.proofs.Parts.{rest}
 use Rattle.lines.proofs.Putting.{puts-length}
-use Rattle.lister.proofs.Walks.{walked-none, walked-more, walked-stop, walked-all, nothing-unsound}
-use Prim.Native.Nat.{_-_}
+use Rattle.lister.proofs.Walks.{walked-none, walked-more, walked-stop, walked-all, nothing-unsound, nothing-fault}
+use Prim.Native.Nat.{_-_, _≤_}
 use lib.ListN.{length}
 use native.Mathlib.Omega.{arith}
 use Rattle.lister.proofs.Walks.{Walked}
@@ -42,12 +42,13 @@ list-first-requires c κs =
 
 same-length : tie.Need-same-length Inv-loop μ-loop
 same-length c =
-    puts-length (c .before .before .before .before .list-first .ensures .puts) ∙ puts-length (c .before .before .before .before .before .before .before .before .loop .inv .puts)
+    puts-length (c .before .before .before .before .list-first .ensures .0 .puts) ∙ puts-length (c .before .before .before .before .before .before .before .before .loop .inv .puts)
 
 returns : tie.Need-returns Inv-loop μ-loop
 returns c =
     let l = c .before .before .before .before .before .before .before .before .loop in
-    walked-stop (l .inv) (rest (l .used) (now (c .before .before .before .before .before .before .before .before .before .before .before .args .s))) (c .before .before .before .before .list-first .ensures) (omega arith)
+    let p = c .before .before .before .before .list-first .ensures in
+    walked-stop (l .inv) (rest (l .used) (now (c .before .before .before .before .before .before .before .before .before .before .before .args .s))) (p .0) (omega arith) (p .1)
 
 add-used : tie.Need-add-used Inv-loop μ-loop
 add-used c = search needs
@@ -58,7 +59,7 @@ loop-less c = search needs
 loop-again : tie.Need-loop-again Inv-loop μ-loop
 loop-again c =
     let l = c .before .before .before .before .before .before .before .before .before .loop in
-    walked-more (l .inv) (rest (l .used) (now (c .before .before .before .before .before .before .before .before .before .before .before .before .args .s))) (c .before .before .before .before .before .list-first .ensures) (λ z. omega arith)
+    walked-more (l .inv) (rest (l .used) (now (c .before .before .before .before .before .before .before .before .before .before .before .before .args .s))) (c .before .before .before .before .before .list-first .ensures .0) (λ z. omega arith)
 
 same-length-2 : tie.Need-same-length-2 Inv-loop μ-loop
 same-length-2 c = puts-length (c .before .loop .inv .puts)
@@ -67,7 +68,8 @@ returns-2 : tie.Need-returns-2 Inv-loop μ-loop
 returns-2 c =
     let l = c .before .loop in
     let s = now (c .before .before .before .before .args .s) in
-    walked-all (l .inv) (nothing-unsound (drop (l .used) s) (omega (arith, length-drop (l .used) s, c .loop-test .left)))
+    let z : length (drop (l .used) s) ≤ 0 = omega (arith, length-drop (l .used) s, c .loop-test .left) in
+    walked-all (l .inv) (nothing-unsound (drop (l .used) s) z) (nothing-fault (drop (l .used) s) z)
 
 pub list-messages-spec : {M : Type 1} → statement M
 list-messages-spec =

@@ -1,64 +1,39 @@
-use Rattle.frame.specs.Decide.{decide}
-use Rattle.frame.specs.declared.Decision.the-variants.{Undecided, Faulty, Sound}
-use Rattle.frame.proofs.Sounds.{sound-at}
+use Prim.Native.Nat.{_+_, _-_}
 use mathlib.Core.Path.{_≡_}
 use denote.Ref.{now}
-use Rattle.reader.specs.Entry.{partBy}
-use Rattle.reader.specs.Entry.{partOf}
+use native.Mathlib.Omega.{arith}
+use Rattle.reader.proofs.Starts.{part-stands}
 use borrow.Author.Needs.{needs}
 use Rattle.reader.proofs.entry_part.Statement.{statement}
 use Rattle.reader.proofs.entry_part.Tie as tie
 
-decide-requires : tie.Need-decide-requires
-decide-requires c κs = search needs
+part-place-requires : tie.Need-part-place-requires
+part-place-requires c κs = search needs
 
-enum-told : tie.Need-enum-told
-enum-told c = search needs
+add-end : tie.Need-add-end
+add-end c =
+    let a = c .before .before .before .args in
+    record { fits = omega (arith, part-stands .within (now (a .s)) (a .index), c .before .part-place .ensures) }
 
-slice-aggregate-result : tie.Need-slice-aggregate-result
-slice-aggregate-result c = search needs
+sub-result : tie.Need-sub-result
+sub-result c = search needs
 
-enum-told-2 : tie.Need-enum-told-2
-enum-told-2 c = search needs
+part-result-start : tie.Need-part-result-start
+part-result-start c = search needs
 
-slice-aggregate-result-2 : tie.Need-slice-aggregate-result-2
-slice-aggregate-result-2 c = search needs
-
-enum-known-n : tie.Need-enum-known-n
-enum-known-n c = search needs
-
-part-in-requires : tie.Need-part-in-requires
-part-in-requires c κs = sound-at (now (c .before .before .before .before .before .args .s)) (c .before .n .given .0 .0) (cc)
+part-result-end : tie.Need-part-result-end
+part-result-end c =
+    let a = c .before .before .before .args in
+    omega (arith, part-stands .within (now (a .s)) (a .index), c .before .part-place .ensures)
 
 returns : tie.Need-returns
-unfolding partOf partBy
 returns c =
-    let d : decide (now (c .before .before .before .before .before .args .s)) ≡ Undecided = cc in
-    simp d
-
-returns-2 : tie.Need-returns-2
-unfolding partOf partBy
-returns-2 c =
-    let d : decide (now (c .before .before .before .before .before .args .s)) ≡ Faulty (c .before .enum-told2 .given .0 .0) (c .before .enum-told2 .given .0 .1 .0) = cc in
-    simp d
-
-returns-3 : tie.Need-returns-3
-unfolding partOf partBy
-returns-3 c =
-    let d : decide (now (c .before .before .before .before .before .before .args .s)) ≡ Sound (c .before .before .n .given .0 .0) = cc in
-    simp (d, c .part-in .ensures)
+    let a = c .before .before .before .before .args in
+    let p = c .before .before .part-place in
+    let e : (p .result .start + p .result .length) - p .result .start ≡ p .result .length = omega arith in
+    rw (e, p .ensures .0, p .ensures .1) (part-stands .there (now (a .s)) (a .index))
 
 pub entry-part-spec : {M : Type 1} → statement M
 entry-part-spec =
     tie.close
-    (tie.spec
-    decide-requires
-    enum-told
-    slice-aggregate-result
-    enum-told-2
-    slice-aggregate-result-2
-    enum-known-n
-    part-in-requires
-    returns
-    returns-2
-    returns-3)
+    (tie.spec part-place-requires add-end sub-result part-result-start part-result-end returns)

@@ -1,5 +1,5 @@
-use Prim.Native.Nat.{ℕ, _+_, _-_}
-use mathlib.Core.Path.{_≡_, ap, subst, _∙_}
+use Prim.Native.Nat.{ℕ, _+_, _-_, _≤_}
+use mathlib.Core.Path.{_≡_, refl, sym, ap, subst, _∙_}
 use mathlib.Core.Bool.{cond}
 use mathlib.Core.Logic.{⊎-elim}
 use denote.Ref.{now}
@@ -23,7 +23,7 @@ use Rattle.command.specs.declared.channels.Channels.{Channels}
 use Rattle.serve.specs.Parts.{partsIn}
 use Rattle.serve.specs.Serve.{ranWith, ranFirst}
 use Rattle.serve.proofs.Ways.{no-booking, way-joined, ran-as, way-stored, way-refused, way-armed, way-marked, way-kept}
-use Rattle.serve.proofs.Serves.{Serving, ServingParts, first-long, parts-none, parts-more, answer-fits, serving-last, serving-end, serving-bytes}
+use Rattle.serve.proofs.Serves.{Serving, ServingParts, size-given, parts-none, parts-more, answer-fits, serving-last, serving-end, serving-bytes}
 use borrow.Author.Needs.{needs}
 use Rattle.serve.proofs.serve.Statement.{statement}
 use Rattle.serve.proofs.serve.Tie as tie
@@ -46,8 +46,13 @@ loop-holds c =
     parts-none (a .n) (a .kind) (a .count) (a .body .now) (a .out .now) _ _ _ (search needs) (omega arith)
 
 -- src/lib.rt:70:13
-entry-size-requires : tie.Need-entry-size-requires Inv-loop μ-loop
-entry-size-requires c κs = search needs
+given-size-requires : tie.Need-given-size-requires Inv-loop μ-loop
+given-size-requires c κs =
+    let l = c .before .loop in
+    let a = c .before .before .before .before .before .before .before .args in
+    let w = l .inv .each (a .device) in
+    let f = size-given (l .left) (a .kind) (l .t .now) _ (omega arith) (omega arith) (w .fill) refl in
+    omega (arith, f .1, f .2)
 
 -- src/lib.rt:71:13
 slice-aggregate-e : tie.Need-slice-aggregate-e Inv-loop μ-loop
@@ -55,8 +60,8 @@ slice-aggregate-e c =
     let l = c .before .before .before .loop in
     let a = c .before .before .before .before .before .before .before .before .before .args in
     let w = l .inv .each (a .device) in
-    let f = first-long (l .left) (a .kind) (l .t .now) (omega arith) (omega arith) (w .fill) in
-    cc (f .2)
+    let f = size-given (l .left) (a .kind) (l .t .now) _ (omega arith) (omega arith) (w .fill) (c .before .given-size .ensures .0) in
+    sym (f .3)
 
 -- src/lib.rt:72:13
 command-of-requires : tie.Need-command-of-requires Inv-loop μ-loop
@@ -64,9 +69,8 @@ command-of-requires c κs =
     let l = c .before .before .before .loop in
     let a = c .before .before .before .before .before .before .before .before .before .args in
     let w = l .inv .each (a .device) in
-    let f = first-long (l .left) (a .kind) (l .t .now) (omega arith) (omega arith) (w .fill) in
-    let s : c .before .entry-size .result ≡ entrySize (a .kind) (l .t .now) = c .before .entry-size .ensures .0 in
-    rw s (omega arith)
+    let f = size-given (l .left) (a .kind) (l .t .now) _ (omega arith) (omega arith) (w .fill) (c .before .given-size .ensures .0) in
+    omega (arith, f .1, f .3)
 
 -- src/lib.rt:74:13
 method-requires : tie.Need-method-requires Inv-loop μ-loop
@@ -78,9 +82,8 @@ parameters-requires c κs =
     let l = c .before .before .before .before .before .before .loop in
     let a = c .before .before .before .before .before .before .before .before .before .before .before .before .args in
     let w = l .inv .each (a .device) in
-    let f = first-long (l .left) (a .kind) (l .t .now) (omega arith) (omega arith) (w .fill) in
-    let s : c .before .before .before .before .entry-size .result ≡ entrySize (a .kind) (l .t .now) = c .before .before .before .before .entry-size .ensures .0 in
-    rw s (omega (arith, least-command (a .kind) (omega arith)))
+    let f = size-given (l .left) (a .kind) (l .t .now) _ (omega arith) (omega arith) (w .fill) (c .before .before .before .before .given-size .ensures .0) in
+    omega (arith, f .1, f .3, least-command (a .kind) (omega arith))
 
 -- src/lib.rt:78:17
 book-requires : tie.Need-book-requires Inv-loop μ-loop
@@ -133,10 +136,19 @@ step j d =
     (w .4 .came)))
     (j .if1 .came)
 
+-- the size that was read is the first entry's
+first-size : (j : tie.Joined1 Inv-loop μ-loop)
+    → (j .before .before .before .before .before .before .given-size .result ≡ entrySize (j .before .before .before .before .before .before .before .before .before .before .before .before .before .before .args .kind) (j .before .before .before .before .before .before .before .before .loop .t .now)) × (j .before .before .before .before .before .before .given-size .result ≤ length (j .before .before .before .before .before .before .before .before .loop .t .now))
+first-size j =
+    let l = j .before .before .before .before .before .before .before .before .loop in
+    let a = j .before .before .before .before .before .before .before .before .before .before .before .before .before .before .args in
+    let f = size-given (l .left) (a .kind) (l .t .now) _ (omega arith) (omega arith) (l .inv .each (a .device) .fill) (j .before .before .before .before .before .before .given-size .ensures .0) in
+    (f .0, f .2)
+
 -- the fields that were read are the first entry's
 fields : (j : tie.Joined1 Inv-loop μ-loop) → j .before .before .before .before .command-of .result ≡ commandOf (take (entrySize (j .before .before .before .before .before .before .before .before .before .before .before .before .before .before .args .kind) (j .before .before .before .before .before .before .before .before .loop .t .now)) (j .before .before .before .before .before .before .before .before .loop .t .now))
 fields j =
-    let s : j .before .before .before .before .before .before .entry-size .result ≡ entrySize (j .before .before .before .before .before .before .before .before .before .before .before .before .before .before .args .kind) (j .before .before .before .before .before .before .before .before .loop .t .now) = j .before .before .before .before .before .before .entry-size .ensures .0 in
+    let s : j .before .before .before .before .before .before .given-size .result ≡ entrySize (j .before .before .before .before .before .before .before .before .before .before .before .before .before .before .args .kind) (j .before .before .before .before .before .before .before .before .loop .t .now) = first-size j .0 in
     cc
 
 -- that is the first entry's command
@@ -147,7 +159,7 @@ unfolding ranFirst ranWith
 first j d =
     let l = j .before .before .before .before .before .before .before .before .loop in
     let a = j .before .before .before .before .before .before .before .before .before .before .before .before .before .before .args in
-    let s : j .before .before .before .before .before .before .entry-size .result ≡ entrySize (a .kind) (l .t .now) = j .before .before .before .before .before .before .entry-size .ensures .0 in
+    let s : j .before .before .before .before .before .before .given-size .result ≡ entrySize (a .kind) (l .t .now) = first-size j .0 in
     let p : now (j .before .parameters .result) ≡ parametersOf (a .kind) (take (entrySize (a .kind) (l .t .now)) (l .t .now)) = cc in
     let m : j .before .before .method2 .result ≡ methodNumber (j .before .before .before .before .command-of .result .method .level) (j .before .before .before .before .command-of .result .method .index) = cc in
     step j d ∙ ran-as (partsIn d (l .channels) (l .subscriptions) (l .mechanism)) (a .n) _ _ _ _ _ (fields j) m p
@@ -162,11 +174,11 @@ answer-to-requires c κs =
 
 -- src/lib.rt:99:13
 sub-t : tie.Need-sub-t Inv-loop μ-loop
-sub-t c = search needs
+sub-t c = omega (arith, first-size (c .before .before .before .before) .1)
 
 -- src/lib.rt:99:13
 part-t-start : tie.Need-part-t-start Inv-loop μ-loop
-part-t-start c = search needs
+part-t-start c = omega (arith, first-size (c .before .before .before .before) .1)
 
 -- src/lib.rt:99:13
 part-t-end : tie.Need-part-t-end Inv-loop μ-loop
@@ -187,8 +199,8 @@ loop-again c =
     let l = c .before .before .before .before .before .before .before .before .before .before .before .before .before .loop in
     let a = c .before .before .before .before .before .before .before .before .before .before .before .before .before .before .before .before .before .before .before .args in
     let t = l .t .now in
-    let size = c .before .before .before .before .before .before .before .before .before .before .before .entry-size .result in
-    let s : size ≡ entrySize (a .kind) t = c .before .before .before .before .before .before .before .before .before .before .before .entry-size .ensures .0 in
+    let size = c .before .before .before .before .before .before .before .before .before .before .before .given-size .result in
+    let s : size ≡ entrySize (a .kind) t = first-size j .0 in
     let z : take (length t - size) (drop size t) ≡ drop (entrySize (a .kind) t) t = cc (rest size t) in
     let ea : c .before .before .before .answer-to .result ≡ cond (eqb (a .kind) 0) (l .at) (l .at + (leastResponse + j .if1 .answer .length)) = c .before .before .before .answer-to .ensures .0 in
     let h = ap (λ (k : CommandFields). k .handle) (fields j) in
@@ -224,7 +236,7 @@ serve-spec =
     μ-loop
     channels-of-requires
     loop-holds
-    entry-size-requires
+    given-size-requires
     slice-aggregate-e
     command-of-requires
     method-requires
