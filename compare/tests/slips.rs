@@ -11,6 +11,7 @@ use compare::answer::{
 use compare::engine::Engine;
 use compare::harness::gate;
 use compare::harness::reset::{SENTINEL, asking};
+use compare::harness::traffic::framed;
 use compare::record::{AREA, Mechanism, Record};
 use compare::second::{Second, address, rules};
 
@@ -77,6 +78,10 @@ slips! {
     KeepAliveHasAnEntry,
     PartFromTheEntry,
     RefusedPartHasAPlace,
+    ReadsBeforeTheCheck,
+    EntryBehindIsRead,
+    PartOfTheEntryBefore,
+    PartToTheEndOfTheMessage,
     TooLongBeforeBadEntry,
     AppendTouchesBehind,
     CommandTypesMixed,
@@ -140,6 +145,27 @@ fn a_difference_is_told_with_seed_step_call_and_both_results() {
     for part in [seed.as_str(), "call: ", "left: ", "right: ", "holder"] {
         assert!(text.contains(part), "{text}");
     }
+}
+
+/// The message cut behind entry index, by the sizes that its entries give.
+fn up_to_entry(bytes: &[u8], index: usize) -> Vec<u8> {
+    let mut end = 10;
+    for _ in 0..=index.min(bytes.len()) {
+        let Some(size) = bytes.get(end..end + 4) else {
+            break;
+        };
+        let size = size
+            .iter()
+            .fold(0, |size, byte| size << 8 | usize::from(*byte));
+        end = bytes.len().min(end + size);
+    }
+    framed(
+        1,
+        end as u32 - 1,
+        bytes[7],
+        index as u16 + 1,
+        &bytes[10..end],
+    )
 }
 
 /// The second program with one slip.
@@ -608,6 +634,18 @@ impl Engine for Slipping {
             KeepAliveHasAnEntry if answer.number == 12 && bytes[7] == 4 && index == 0 => {
                 answer.number = 0;
             }
+            ReadsBeforeTheCheck if answer.fault == 6 => {
+                let front = Second.read_entry(&up_to_entry(bytes, index), index);
+                if front.number == 0 {
+                    answer = front;
+                }
+            }
+            EntryBehindIsRead if answer.number == 0 => {
+                let behind = Second.read_entry(bytes, index + 1);
+                if behind.number == 0 {
+                    answer = behind;
+                }
+            }
             _ => {}
         }
         answer
@@ -618,6 +656,12 @@ impl Engine for Slipping {
         match self.0 {
             PartFromTheEntry if answer.length > 0 => answer.start -= 1,
             RefusedPartHasAPlace if answer.start == 0 => answer.start = 10,
+            PartOfTheEntryBefore if answer.start != 0 && index > 0 => {
+                answer = Second.entry_part(bytes, index - 1);
+            }
+            PartToTheEndOfTheMessage if answer.start != 0 => {
+                answer.length = Second.read_message(bytes).length - answer.start;
+            }
             _ => {}
         }
         answer

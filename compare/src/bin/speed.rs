@@ -5,7 +5,9 @@
 //! only delivers, for `count/run`, which counts the instructions of it: `speed
 //! PROGRAM COMMANDS whole|bytes MESSAGES` the table's messages, and `speed
 //! PROGRAM KIND COMMANDS ENTRIES MESSAGES` those of one kind of command, to a
-//! record with so many entries in use; of no commands an empty piece.
+//! record with so many entries in use; of no commands an empty piece. `speed
+//! library read CALL INDEX TIMES` reads a message of 119 entries by one of the
+//! reader's calls.
 
 use compare::answer::{MESSAGE, MORE};
 use compare::engine::Engine;
@@ -28,6 +30,8 @@ const POOL: usize = 100;
 /// So many entries are in use in the table.
 const USED: u32 = 8;
 const EVENT: u32 = 0x0001_0001;
+/// So many least commands fit a message.
+const MOST: u32 = 119;
 
 /// What a host keeps between calls.
 struct Host {
@@ -81,6 +85,7 @@ fn main() -> ExitCode {
             Some(())
         }
         [program, commands, pieces, messages] => only(program, commands, pieces, messages),
+        ["library", "read", call, index, times] => only_read(call, index, times),
         [program, kind, commands, entries, messages] => {
             only_kind(program, kind, commands, entries, messages)
         }
@@ -91,6 +96,7 @@ fn main() -> ExitCode {
         None => {
             eprintln!("usage: speed [library|plain COMMANDS whole|bytes MESSAGES]");
             eprintln!("       speed library|plain lock|get|set|add COMMANDS ENTRIES MESSAGES");
+            eprintln!("       speed library read message|entry|part INDEX TIMES");
             ExitCode::from(2)
         }
     }
@@ -133,6 +139,42 @@ fn only_kind(
     }
     tell_end(host);
     Some(())
+}
+
+/// Reads so many times, and measures nothing.
+#[cfg(feature = "ours")]
+fn only_read(call: &str, index: &str, times: &str) -> Option<()> {
+    use compare::ours::Ours;
+    let bytes = longest();
+    let index = index.parse().ok()?;
+    let times = times.parse().ok()?;
+    match call {
+        "message" => tell_last(times, || Ours.read_message(black_box(&bytes))),
+        "entry" => tell_last(times, || Ours.read_entry(black_box(&bytes), index)),
+        "part" => tell_last(times, || Ours.entry_part(black_box(&bytes), index)),
+        _ => return None,
+    }
+    Some(())
+}
+
+#[cfg(not(feature = "ours"))]
+fn only_read(_: &str, _: &str, _: &str) -> Option<()> {
+    None
+}
+
+/// The last answer, to see that every archive gives the same.
+#[cfg(feature = "ours")]
+fn tell_last<T: std::fmt::Debug>(times: usize, read: impl Fn() -> T) {
+    let mut last = None;
+    for _ in 0..times {
+        last = black_box(Some(read()));
+    }
+    println!("{last:?}");
+}
+
+/// The message of the most entries: 119 least commands, with different handles.
+fn longest() -> Vec<u8> {
+    message(1, &(0..MOST).map(lock).collect::<Vec<_>>())
 }
 
 fn find<T: Copy>(named: &[(&str, T)], wanted: &str) -> Option<T> {
@@ -346,6 +388,15 @@ mod tests {
         one_by_one(set, USED, |before, host| {
             assert_ne!(before.device.mutes, host.record.device.mutes);
         });
+    }
+
+    #[test]
+    fn the_longest_message_has_119_entries() {
+        let bytes = longest();
+        assert_eq!(Second.read_message(&bytes).count, 119);
+        let last = Second.read_entry(&bytes, 118);
+        assert_eq!((last.number, last.handle), (0, 118));
+        assert_ne!(Second.read_entry(&bytes, 119).number, 0);
     }
 
     #[test]

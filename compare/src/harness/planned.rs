@@ -15,7 +15,7 @@ const HALF: u32 = 1 << 31;
 
 type Plan = fn(&mut Desk<'_, '_>) -> Checked<()>;
 
-const PLANS: [Plan; 24] = [
+const PLANS: [Plan; 25] = [
     states::freshness,
     states::overruns,
     states::full_table,
@@ -40,6 +40,7 @@ const PLANS: [Plan; 24] = [
     messages::every_method,
     writing::writer,
     reset::mechanisms,
+    messages::every_entry,
 ];
 
 /// Goes through all plans.

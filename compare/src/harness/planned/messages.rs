@@ -1,9 +1,10 @@
-//! Messages: every byte damaged, every cut, every size, every method.
+//! Messages: every byte damaged, every cut, every size, every method, every entry.
 
 use crate::harness::call::Call;
 use crate::harness::desk::Desk;
 use crate::harness::session::Checked;
 use crate::harness::traffic::{self, command, message};
+use std::ops::RangeInclusive;
 
 /// Counts and lengths that some method wants, and some that none wants.
 const ARGUMENTS: [(u8, usize); 8] = [
@@ -128,6 +129,64 @@ pub fn sizes(desk: &mut Desk<'_, '_>) -> Checked<()> {
             desk.close(0)?;
             desk.open()?;
         }
+    }
+    Ok(())
+}
+
+/// Every entry asked for, of messages of every type; then the same with each
+/// entry in turn a byte shorter or longer than it says, and all are refused.
+pub fn every_entry(desk: &mut Desk<'_, '_>) -> Checked<()> {
+    desk.open()?;
+    desk.open()?;
+    for kind in 0..4 {
+        for count in [1, 2, 3, 7] {
+            let entries: Vec<Vec<u8>> = (0..count)
+                .map(|_| traffic::any_entry(&mut desk.random, kind))
+                .collect();
+            ask_for_each(desk, &message(kind, &entries), 0..=count)?;
+            for broken in 0..count {
+                for other in [1, 255] {
+                    let mut entries = entries.clone();
+                    entries[broken][3] = entries[broken][3].wrapping_add(other);
+                    let bytes = message(kind, &entries);
+                    ask_for_each(desk, &bytes, 0..=count)?;
+                    let call = desk.delivering(1, &bytes);
+                    desk.session.check(call)?;
+                }
+            }
+        }
+        most_entries(desk, kind)?;
+    }
+    Ok(())
+}
+
+/// The most entries that fit a message, and one of them broken.
+fn most_entries(desk: &mut Desk<'_, '_>, kind: u8) -> Checked<()> {
+    let least = traffic::of_size(&mut desk.random, kind, [26, 26, 34, 19][usize::from(kind)]);
+    let mut entries = vec![least[10..].to_vec(); traffic::LARGEST_DATA / (least.len() - 10)];
+    let last = entries.len() - 1;
+    for entry in [0, 1, last / 2, last, last + 1] {
+        ask_for_each(desk, &message(kind, &entries), entry..=entry)?;
+    }
+    entries[last][3] += 1;
+    for entry in [0, last] {
+        ask_for_each(desk, &message(kind, &entries), entry..=entry)?;
+    }
+    Ok(())
+}
+
+fn ask_for_each(
+    desk: &mut Desk<'_, '_>,
+    bytes: &[u8],
+    wanted: RangeInclusive<usize>,
+) -> Checked<()> {
+    for index in wanted {
+        let bytes = bytes.to_vec();
+        desk.session.check(Call::ReadEntry {
+            bytes: bytes.clone(),
+            index,
+        })?;
+        desk.session.check(Call::EntryPart { bytes, index })?;
     }
     Ok(())
 }
