@@ -31,6 +31,7 @@ const POOL: usize = 100;
 const USED: u32 = 8;
 const EVENT: u32 = 0x0001_0001;
 /// So many least commands fit a message.
+#[cfg(any(feature = "ours", test))]
 const MOST: u32 = 119;
 
 /// What a host keeps between calls.
@@ -173,6 +174,7 @@ fn tell_last<T: std::fmt::Debug>(times: usize, read: impl Fn() -> T) {
 }
 
 /// The message of the most entries: 119 least commands, with different handles.
+#[cfg(any(feature = "ours", test))]
 fn longest() -> Vec<u8> {
     message(1, &(0..MOST).map(lock).collect::<Vec<_>>())
 }

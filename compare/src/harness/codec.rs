@@ -28,12 +28,7 @@ pub fn read(desk: &mut Desk<'_, '_>) -> Checked<()> {
     desk.session.check(Call::ReadMessage {
         bytes: bytes.clone(),
     })?;
-    desk.session.check(Call::ReadEntry {
-        bytes: bytes.clone(),
-        index,
-    })?;
-    desk.session.check(Call::EntryPart { bytes, index })?;
-    Ok(())
+    desk.ask_for(&bytes, index)
 }
 
 /// A buffer mostly long enough, filled at random.

@@ -49,6 +49,17 @@ impl<'s, 'e> Desk<'s, 'e> {
         Ok(())
     }
 
+    /// Reads an entry, and asks for its part.
+    pub fn ask_for(&mut self, bytes: &[u8], index: usize) -> Checked<()> {
+        let bytes = bytes.to_vec();
+        self.session.check(Call::ReadEntry {
+            bytes: bytes.clone(),
+            index,
+        })?;
+        self.session.check(Call::EntryPart { bytes, index })?;
+        Ok(())
+    }
+
     /// Makes a call and goes on from its outcome, if it was done.
     pub fn advance(&mut self, call: Call) -> Checked<Outcome> {
         let outcome = self.session.check(call)?;

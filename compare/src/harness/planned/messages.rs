@@ -4,7 +4,6 @@ use crate::harness::call::Call;
 use crate::harness::desk::Desk;
 use crate::harness::session::Checked;
 use crate::harness::traffic::{self, command, message};
-use std::ops::RangeInclusive;
 
 /// Counts and lengths that some method wants, and some that none wants.
 const ARGUMENTS: [(u8, usize); 8] = [
@@ -91,11 +90,7 @@ pub fn cut_samples(desk: &mut Desk<'_, '_>) -> Checked<()> {
             desk.session.check(Call::ReadMessage {
                 bytes: bytes.clone(),
             })?;
-            desk.session.check(Call::ReadEntry {
-                bytes: bytes.clone(),
-                index: 0,
-            })?;
-            desk.session.check(Call::EntryPart { bytes, index: 0 })?;
+            desk.ask_for(&bytes, 0)?;
             desk.piece(0, &sample[..cut])?;
             desk.piece(0, &[])?;
             desk.piece(0, &sample[cut..])?;
@@ -143,13 +138,13 @@ pub fn every_entry(desk: &mut Desk<'_, '_>) -> Checked<()> {
             let entries: Vec<Vec<u8>> = (0..count)
                 .map(|_| traffic::any_entry(&mut desk.random, kind))
                 .collect();
-            ask_for_each(desk, &message(kind, &entries), 0..=count)?;
+            ask_for_all(desk, &message(kind, &entries), count)?;
             for broken in 0..count {
                 for other in [1, 255] {
                     let mut entries = entries.clone();
                     entries[broken][3] = entries[broken][3].wrapping_add(other);
                     let bytes = message(kind, &entries);
-                    ask_for_each(desk, &bytes, 0..=count)?;
+                    ask_for_all(desk, &bytes, count)?;
                     let call = desk.delivering(1, &bytes);
                     desk.session.check(call)?;
                 }
@@ -165,28 +160,20 @@ fn most_entries(desk: &mut Desk<'_, '_>, kind: u8) -> Checked<()> {
     let least = traffic::of_size(&mut desk.random, kind, [26, 26, 34, 19][usize::from(kind)]);
     let mut entries = vec![least[10..].to_vec(); traffic::LARGEST_DATA / (least.len() - 10)];
     let last = entries.len() - 1;
-    for entry in [0, 1, last / 2, last, last + 1] {
-        ask_for_each(desk, &message(kind, &entries), entry..=entry)?;
+    for index in [0, 1, last / 2, last, last + 1] {
+        desk.ask_for(&message(kind, &entries), index)?;
     }
     entries[last][3] += 1;
-    for entry in [0, last] {
-        ask_for_each(desk, &message(kind, &entries), entry..=entry)?;
+    for index in [0, last] {
+        desk.ask_for(&message(kind, &entries), index)?;
     }
     Ok(())
 }
 
-fn ask_for_each(
-    desk: &mut Desk<'_, '_>,
-    bytes: &[u8],
-    wanted: RangeInclusive<usize>,
-) -> Checked<()> {
-    for index in wanted {
-        let bytes = bytes.to_vec();
-        desk.session.check(Call::ReadEntry {
-            bytes: bytes.clone(),
-            index,
-        })?;
-        desk.session.check(Call::EntryPart { bytes, index })?;
+/// Every entry of so many, and the one behind them.
+fn ask_for_all(desk: &mut Desk<'_, '_>, bytes: &[u8], count: usize) -> Checked<()> {
+    for index in 0..=count {
+        desk.ask_for(bytes, index)?;
     }
     Ok(())
 }
