@@ -41,6 +41,12 @@ pub record AtPlace (s : List ℕ) (a b : ℕ) : Type 0 where
   pub low : a + leastEntry (pduType s) ≤ b
   pub high : b ≤ length s
 
+-- its bytes are at least the least entry
+pub at-long : {s : List ℕ} {a b : ℕ} → AtPlace s a b → leastEntry (pduType s) ≤ length (take (b - a) (drop a s))
+at-long {s} {a} {b} w =
+    let l : b - a ≤ length (drop a s) = omega (arith, w .low, w .high, length-drop a s) in
+    omega (arith, w .low, length-take-le (b - a) (drop a s) l)
+
 -- what is answered of an entry that stands there: its fields, and where its part starts and how long that is
 pub record Placing (s : List ℕ) (p : Place) (answer : List ℕ) (at : ℕ) (part : List ℕ) : Type 0 where
   pub entry : entryPlaced p s ≡ answer
@@ -139,6 +145,7 @@ placing-by s i Undecided e = record { entry = refl; start = refl; long = refl; s
 placing-by s i (Faulty f n) e = record { entry = refl; start = refl; long = refl; stands = λ a b q. absurd (let z : _≡_ {A = ℕ} 0 1 = cc in omega arith) }
 placing-by s i (Sound n) e = placing-in s i n (sound-at s n e)
 
-pub placing : (s : List ℕ) (i : ℕ) → Placing s (entryPlace s i) (entryOf s i) (partStart s i) (partOf s i)
+-- what is answered of the entry asked for, by its place p
+pub placing : (s : List ℕ) (i : ℕ) (p : Place) → p ≡ entryPlace s i → Placing s p (entryOf s i) (partStart s i) (partOf s i)
 unfolding entryPlace entryOf partStart partOf
-placing s i = placing-by s i (decide s) refl
+placing s i p e = rw e (placing-by s i (decide s) refl)

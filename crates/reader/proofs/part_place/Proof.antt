@@ -1,8 +1,5 @@
-use mathlib.Core.Path.{_≡_}
-use denote.Ref.{now}
 use native.Mathlib.Omega.{arith}
-use Rattle.reader.specs.Scaffold.{entryPlace, startPlaced, lengthPlaced}
-use Rattle.reader.specs.declared.Place.the-variants as place
+use Rattle.reader.specs.Scaffold.{startPlaced, lengthPlaced}
 use Rattle.reader.proofs.Places.{placing}
 use borrow.Author.Needs.{needs}
 use Rattle.reader.proofs.part_place.Statement.{statement}
@@ -16,10 +13,7 @@ enum-known-from c = search needs
 
 shared-slice-read-least-entry : tie.Need-shared-slice-read-least-entry
 shared-slice-read-least-entry c =
-    let a = c .before .before .before .before .before .before .args in
-    let g = c .before .before .from .given .0 in
-    let e : entryPlace (now (a .s)) (a .index) ≡ place.At (g .0) (g .1 .0) = cc in
-    let w = placing (now (a .s)) (a .index) .stands (g .0) (g .1 .0) e in
+    let w = placing _ _ _ (c .before .before .before .before .place-of .ensures) .stands _ _ (c .before .before .from .given .1) in
     omega (arith, w .long)
 
 least-entry-requires : tie.Need-least-entry-requires
@@ -27,18 +21,12 @@ least-entry-requires c κs = search needs
 
 add-start : tie.Need-add-start
 add-start c =
-    let a = c .before .before .before .before .before .before .before .args in
-    let g = c .before .before .before .from .given .0 in
-    let e : entryPlace (now (a .s)) (a .index) ≡ place.At (g .0) (g .1 .0) = cc in
-    let w = placing (now (a .s)) (a .index) .stands (g .0) (g .1 .0) e in
+    let w = placing _ _ _ (c .before .before .before .before .before .place-of .ensures) .stands _ _ (c .before .before .before .from .given .1) in
     record { fits = omega (arith, w .low, w .high) }
 
 sub-t8 : tie.Need-sub-t8
 sub-t8 c =
-    let a = c .before .before .before .before .before .before .before .args in
-    let g = c .before .before .before .from .given .0 in
-    let e : entryPlace (now (a .s)) (a .index) ≡ place.At (g .0) (g .1 .0) = cc in
-    let w = placing (now (a .s)) (a .index) .stands (g .0) (g .1 .0) e in
+    let w = placing _ _ _ (c .before .before .before .before .before .place-of .ensures) .stands _ _ (c .before .before .before .from .given .1) in
     omega (arith, w .low)
 
 enum-told : tie.Need-enum-told
@@ -53,35 +41,20 @@ enum-told-3 c = search needs
 returns : tie.Need-returns
 unfolding startPlaced lengthPlaced
 returns c =
-    let a = c .before .before .before .before .before .before .before .args in
-    let g = c .before .before .before .from .given .0 in
-    let e : entryPlace (now (a .s)) (a .index) ≡ place.At (g .0) (g .1 .0) = cc in
-    let w = rw e at (placing (now (a .s)) (a .index)) in
+    let w = rw (c .before .before .before .from .given .1) at (placing _ _ _ (c .before .before .before .before .before .place-of .ensures)) in
     rw (c .least-entry .ensures) (w .start, w .long)
 
 returns-2 : tie.Need-returns-2
 unfolding startPlaced lengthPlaced
-returns-2 c =
-    let a = c .before .before .before .before .args in
-    let e : entryPlace (now (a .s)) (a .index) ≡ place.Fault (c .enum-told .given .0 .0) = cc in
-    let w = rw e at (placing (now (a .s)) (a .index)) in
-    (w .start, w .long)
+returns-2 c = let w = rw (c .enum-told .given .1) at (placing _ _ _ (c .before .before .place-of .ensures)) in (w .start, w .long)
 
 returns-3 : tie.Need-returns-3
 unfolding startPlaced lengthPlaced
-returns-3 c =
-    let a = c .before .before .before .before .args in
-    let e : entryPlace (now (a .s)) (a .index) ≡ place.Short = cc in
-    let w = rw e at (placing (now (a .s)) (a .index)) in
-    (w .start, w .long)
+returns-3 c = let w = rw (c .enum-told2 .given .1) at (placing _ _ _ (c .before .before .place-of .ensures)) in (w .start, w .long)
 
 returns-4 : tie.Need-returns-4
 unfolding startPlaced lengthPlaced
-returns-4 c =
-    let a = c .before .before .before .before .args in
-    let e : entryPlace (now (a .s)) (a .index) ≡ place.NoEntry = cc in
-    let w = rw e at (placing (now (a .s)) (a .index)) in
-    (w .start, w .long)
+returns-4 c = let w = rw (c .enum-told3 .given .1) at (placing _ _ _ (c .before .before .place-of .ensures)) in (w .start, w .long)
 
 pub part-place-spec : {M : Type 1} → statement M
 part-place-spec =

@@ -1,13 +1,8 @@
-use Prim.Native.Nat.{_-_}
-use mathlib.Core.Path.{_≡_, _∙_}
-use lib.ListN.{drop, length-drop}
-use lib.Seq.{length-take-le}
-use denote.Ref.{now}
+use mathlib.Core.Path.{_∙_}
 use native.Mathlib.Omega.{arith}
 use Rattle.reader.specs.Numbers.{entryNumbers}
-use Rattle.reader.specs.Scaffold.{entryPlace, entryPlaced}
-use Rattle.reader.specs.declared.Place.the-variants as place
-use Rattle.reader.proofs.Places.{placing}
+use Rattle.reader.specs.Scaffold.{entryPlaced}
+use Rattle.reader.proofs.Places.{placing, at-long}
 use borrow.Author.Needs.{needs}
 use Rattle.reader.proofs.read_entry.Statement.{statement}
 use Rattle.reader.proofs.read_entry.Tie as tie
@@ -20,45 +15,26 @@ enum-known-from c = search needs
 
 shared-slice-read-fields-of : tie.Need-shared-slice-read-fields-of
 shared-slice-read-fields-of c =
-    let a = c .before .before .before .before .before .before .args in
-    let g = c .before .before .from .given .0 in
-    let e : entryPlace (now (a .s)) (a .index) ≡ place.At (g .0) (g .1 .0) = cc in
-    let w = placing (now (a .s)) (a .index) .stands (g .0) (g .1 .0) e in
+    let w = placing _ _ _ (c .before .before .before .before .place-of .ensures) .stands _ _ (c .before .before .from .given .1) in
     omega (arith, w .long)
 
 sub-fields-of : tie.Need-sub-fields-of
 sub-fields-of c =
-    let a = c .before .before .before .before .before .before .args in
-    let g = c .before .before .from .given .0 in
-    let e : entryPlace (now (a .s)) (a .index) ≡ place.At (g .0) (g .1 .0) = cc in
-    let w = placing (now (a .s)) (a .index) .stands (g .0) (g .1 .0) e in
+    let w = placing _ _ _ (c .before .before .before .before .place-of .ensures) .stands _ _ (c .before .before .from .given .1) in
     omega (arith, w .low)
 
 part-fields-of-start : tie.Need-part-fields-of-start
 part-fields-of-start c =
-    let a = c .before .before .before .before .before .before .args in
-    let g = c .before .before .from .given .0 in
-    let e : entryPlace (now (a .s)) (a .index) ≡ place.At (g .0) (g .1 .0) = cc in
-    let w = placing (now (a .s)) (a .index) .stands (g .0) (g .1 .0) e in
+    let w = placing _ _ _ (c .before .before .before .before .place-of .ensures) .stands _ _ (c .before .before .from .given .1) in
     omega (arith, w .low)
 
 part-fields-of-end : tie.Need-part-fields-of-end
 part-fields-of-end c =
-    let a = c .before .before .before .before .before .before .args in
-    let g = c .before .before .from .given .0 in
-    let e : entryPlace (now (a .s)) (a .index) ≡ place.At (g .0) (g .1 .0) = cc in
-    let w = placing (now (a .s)) (a .index) .stands (g .0) (g .1 .0) e in
+    let w = placing _ _ _ (c .before .before .before .before .place-of .ensures) .stands _ _ (c .before .before .from .given .1) in
     omega (arith, w .high)
 
 fields-of-requires : tie.Need-fields-of-requires
-fields-of-requires c κs =
-    let a = c .before .before .before .before .before .before .before .args in
-    let g = c .before .before .before .from .given .0 in
-    let e : entryPlace (now (a .s)) (a .index) ≡ place.At (g .0) (g .1 .0) = cc in
-    let w = placing (now (a .s)) (a .index) .stands (g .0) (g .1 .0) e in
-    let k = g .1 .0 - g .0 in
-    let l = drop (g .0) (now (a .s)) in
-    omega (arith, w .low, w .high, length-drop (g .0) (now (a .s)), length-take-le k l (omega (arith, w .low, w .high, length-drop (g .0) (now (a .s)))))
+fields-of-requires c κs = at-long (placing _ _ _ (c .before .before .before .before .before .place-of .ensures) .stands _ _ (c .before .before .before .from .given .1))
 
 enum-known-f : tie.Need-enum-known-f
 enum-known-f c = search needs
@@ -71,32 +47,19 @@ enum-told-2 c = search needs
 
 returns : tie.Need-returns
 unfolding entryPlaced
-returns c =
-    let a = c .before .before .before .before .before .before .before .before .args in
-    let g = c .before .before .before .before .from .given .0 in
-    let e : entryPlace (now (a .s)) (a .index) ≡ place.At (g .0) (g .1 .0) = cc in
-    c .fields-of .ensures ∙ rw e at (placing (now (a .s)) (a .index) .entry)
+returns c = c .fields-of .ensures ∙ rw (c .before .before .before .before .from .given .1) at (placing _ _ _ (c .before .before .before .before .before .before .place-of .ensures) .entry)
 
 returns-2 : tie.Need-returns-2
 unfolding entryPlaced entryNumbers
-returns-2 c =
-    let a = c .before .before .before .before .before .args in
-    let e : entryPlace (now (a .s)) (a .index) ≡ place.Fault (c .before .f .given .0 .0) = cc in
-    rw e at (placing (now (a .s)) (a .index) .entry)
+returns-2 c = rw (c .before .f .given .1) at (placing _ _ _ (c .before .before .before .place-of .ensures) .entry)
 
 returns-3 : tie.Need-returns-3
 unfolding entryPlaced entryNumbers
-returns-3 c =
-    let a = c .before .before .before .before .args in
-    let e : entryPlace (now (a .s)) (a .index) ≡ place.Short = cc in
-    rw e at (placing (now (a .s)) (a .index) .entry)
+returns-3 c = rw (c .enum-told .given .1) at (placing _ _ _ (c .before .before .place-of .ensures) .entry)
 
 returns-4 : tie.Need-returns-4
 unfolding entryPlaced entryNumbers
-returns-4 c =
-    let a = c .before .before .before .before .args in
-    let e : entryPlace (now (a .s)) (a .index) ≡ place.NoEntry = cc in
-    rw e at (placing (now (a .s)) (a .index) .entry)
+returns-4 c = rw (c .enum-told2 .given .1) at (placing _ _ _ (c .before .before .place-of .ensures) .entry)
 
 pub read-entry-spec : {M : Type 1} → statement M
 read-entry-spec =
