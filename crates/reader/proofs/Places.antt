@@ -6,10 +6,11 @@ use mathlib.Core.Bool.{Bool, cond, true, false}
 use native.Mathlib.Omega.{arith}
 use native.Mathlib.Nat.{sub-zero, add-zero}
 use lib.ListN.{length, take, drop, length-drop}
-use lib.Seq.{getD-take, length-take-le}
+use lib.Seq.{length-take-le}
 use lib.Dec.{ltb, eqb}
 use borrow.Author.Tests.{ne-eqb}
 use Rattle.octets.specs.Numbers.{be32At}
+use Rattle.octets.proofs.Digits.{be32-take}
 use Rattle.frame.specs.Limits.{headerEnd, keepAlive}
 use Rattle.frame.specs.Header.{pduType, messageCount}
 use Rattle.frame.specs.Entry.{leastEntry, entrySize}
@@ -29,11 +30,6 @@ use Rattle.reader.specs.declared.Place.{Place}
 use Rattle.reader.specs.declared.Place.the-variants as place
 use Rattle.reader.proofs.Sounds.{entry-low}
 use Rattle.reader.proofs.Starts.{from-ends, size-fits, entries-fit, end-placed, placed}
-
--- a number's four bytes are all that it is read from
-front-size : (m : ℕ) (l : List ℕ) → 4 ≤ m → be32At (take m l) 0 ≡ be32At l 0
-unfolding be32At
-front-size m l h = rw (getD-take m l 0 0 (omega arith), getD-take m l 1 0 (omega arith), getD-take m l 2 0 (omega arith), getD-take m l 3 0 (omega arith))
 
 -- what an entry that stands from a to b of s is
 pub record AtPlace (s : List ℕ) (a b : ℕ) : Type 0 where
@@ -98,7 +94,7 @@ module _ (s : List ℕ) (i n : ℕ) (w : SoundAt s n) where
         let u = from in
         let e = end-placed s n u (w .low) (w .high) (from-ends i (pduType s) (dataOf s n)) in
         let z = entry-at (pduType s) u (λ q. omega (arith, least, least-holds (pduType s) .0)) in
-        sym (front-size (length u) (drop (n - length u) s) (omega (arith, least, fits, least-holds (pduType s) .0))) ∙ ap (λ (l : List ℕ). be32At l 0) e ∙ sym (z .size)
+        sym (be32-take (drop (n - length u) s) 0 (length u) (omega (arith, least, fits, least-holds (pduType s) .0))) ∙ ap (λ (l : List ℕ). be32At l 0) e ∙ sym (z .size)
 
     placing-some : Placing s (place.At (n - length from) ((n - length from) + size)) (fieldsOf (pduType s) (entryAt s n i)) ((n - length from) + leastEntry (pduType s)) (parametersOf (pduType s) (entryAt s n i))
     unfolding entryPlaced startPlaced lengthPlaced entryBytes parametersOf
