@@ -8,6 +8,7 @@ pub mod HeldBytes
 pub mod Kept
 pub mod Whole
 pub mod Ticks
+pub mod Overrun
 pub mod Locks
 pub mod Closure
 pub mod Heartbeats

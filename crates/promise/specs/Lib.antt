@@ -5,6 +5,7 @@ pub mod Scaffold
 pub mod Whole
 pub mod Examples
 pub mod Ticks
+pub mod Overrun
 pub mod Locks
 pub mod Closure
 pub mod Heartbeats

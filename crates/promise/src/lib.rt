@@ -4,6 +4,7 @@ ghost use Rattle.promise.specs.Whole.{DemandThree};
 ghost use Rattle.promise.specs.Examples.{ExamplesWorked};
 ghost use Rattle.promise.specs.Closure.{ClosureLeavesNothing};
 ghost use Rattle.promise.specs.Heartbeats.{HeartbeatSent};
+ghost use Rattle.promise.specs.Overrun.{NoOverrun};
 ghost use Rattle.promise.specs.Reset.{ResetByKey, RackFreeAgain};
 ghost use Rattle.promise.specs.ResetExamples.{ResetWorked};
 ghost use Rattle.promise.specs.ResetKey.{LatestKeyCounts, KeyStaysInside};
@@ -31,6 +32,11 @@ pub fn closure_leaves_nothing()
 // A connection on which nothing was sent for its heartbeat is due, and the takes that follow send it something.
 pub fn heartbeat_sent()
     ensures { λ _. ⌜ HeartbeatSent ⌝ }
+{}
+
+// No tick is refused by 7: a record whose counts could run over is refused by 1.
+pub fn no_overrun()
+    ensures { λ _. ⌜ NoOverrun ⌝ }
 {}
 
 // Exactly when a datagram resets, what it leaves, and that any other changes nothing.
