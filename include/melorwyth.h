@@ -99,7 +99,7 @@
  * buffer is as it was. All other fields of the answer are then 0, but for the
  * fault of refusal 8. No call has a condition to be met first: whatever numbers
  * and bytes are passed, the answer is the one that docs/PROMISES.md says. From a
- * fresh record and a cleared area, used as above, refusals 1, 2 and 7 never come.
+ * fresh record and a cleared area, used as above, refusals 1 and 2 never come.
  *
  * WHAT A HOST MUST NOT DO
  *
@@ -164,8 +164,7 @@ extern "C" {
 #define MELORWYTH_TABLE_FULL 5
 /* This reading less the last, modulo 2^32, is 2^31 or more: the clock went back, or more than 24 days passed. */
 #define MELORWYTH_CLOCK_BACK 6
-/* Silence or quiet plus the step does not fit 64 bits. */
-#define MELORWYTH_OVERRUN 7
+/* 7 is unused: no call tells it. */
 /* Reader and append: the bytes are no sound message; the field fault says why. */
 #define MELORWYTH_FAULT 8
 /* Reader: the bytes end before it is decided what they are. */
@@ -271,7 +270,7 @@ typedef struct melorwyth_closed {
 
 typedef struct melorwyth_ticked {
     melorwyth_record record;
-    uint8_t number;  /* 0, 1, 2, 6 or 7 */
+    uint8_t number;  /* 0, 1, 2 or 6 */
     uint8_t closed;  /* bit n is set for connection n closed */
 } melorwyth_ticked;
 

@@ -22,7 +22,7 @@ use crate::record::Record;
 use endpoint::{Delivery, Taking};
 use wire::Heartbeat;
 
-/// Why a call is refused; the numbers are the scope paper's.
+/// Why a call is refused; the numbers are the scope paper's, of which 7 is given up.
 #[derive(Clone, Copy, Debug, PartialEq, Eq)]
 pub enum Refusal {
     BadRecord,
@@ -31,7 +31,6 @@ pub enum Refusal {
     NoRoom,
     TableFull,
     ClockBack,
-    Overrun,
     /// A fault from 1 to 6.
     Fault(u8),
     Short,
@@ -50,7 +49,6 @@ impl Refusal {
             Refusal::NoRoom => 4,
             Refusal::TableFull => 5,
             Refusal::ClockBack => 6,
-            Refusal::Overrun => 7,
             Refusal::Fault(_) => 8,
             Refusal::Short => 9,
             Refusal::TooLong => 10,

@@ -38,6 +38,9 @@ slips! {
     CloseKeepsUndecidedBytes,
     SilenceIn32Bits,
     LimitIn32Bits,
+    QuietIn32Bits,
+    OverrunTold,
+    ThreeHIsStillSilence,
     ClosesOnlyPastThreeH,
     DueOnlyPastH,
     QuietGrowsWhileDue,
@@ -199,6 +202,13 @@ impl Slipping {
                     }
                 }
             }
+            ThreeHIsStillSilence => {
+                for connection in &mut device.connections {
+                    if connection.beat > 0 && connection.beat.checked_mul(3) == Some(connection.silence) {
+                        connection.silence -= 1;
+                    }
+                }
+            }
             FreeEntryContextUnseen => {
                 for entry in &mut device.subscriptions {
                     if !entry.used {
@@ -299,6 +309,14 @@ impl Slipping {
     fn is(&self, slip: Slip) -> bool {
         self.0 == slip
     }
+}
+
+/// A count of the record and the step do not fit 64 bits.
+fn runs_over(record: &Record, step: u32) -> bool {
+    record.device.connections.iter().any(|connection| {
+        let count = connection.silence.max(connection.quiet);
+        count.checked_add(u64::from(step)).is_none()
+    })
 }
 
 fn hide_twins(record: &mut Record) {
@@ -417,6 +435,9 @@ impl Engine for Slipping {
             area.fill(0);
         }
         let mut answer = Second.tick(self.seen(&record), area, reading);
+        if self.is(OverrunTold) && runs_over(&record, step) {
+            answer.number = 7;
+        }
         if answer.number != 0 {
             return answer;
         }
@@ -431,6 +452,10 @@ impl Engine for Slipping {
             let limit = 3 * before.beat;
             match self.0 {
                 SilenceIn32Bits => after.silence &= 0xFFFF_FFFF,
+                QuietIn32Bits if quiet >= 1 << 32 && after.due && !before.due => {
+                    after.due = false;
+                    after.quiet = quiet & 0xFFFF_FFFF;
+                }
                 LimitIn32Bits if before.beat > 0 && silence >= (limit & 0xFFFF_FFFF) => {
                     answer.closed |= 1 << n;
                 }

@@ -56,7 +56,6 @@ pub fn refusal(number: u8) -> String {
         4 => "NoRoom",
         5 => "TableFull",
         6 => "ClockBack",
-        7 => "Overrun",
         8 => "Fault",
         9 => "Short",
         10 => "TooLong",
@@ -147,7 +146,7 @@ mod tests {
         assert!(others.iter().all(|object| mute_of_object(*object) == 0));
     }
 
-    /// The paper's statuses are 0 and 3 to 11, its faults 1 to 6, its refusals 1 to 12.
+    /// The paper's statuses are 0 and 3 to 11, its faults 1 to 6, its refusals 1 to 12 but for 7, which is given up.
     #[test]
     fn every_number_of_the_paper_has_words_of_its_own() {
         let known = |words: fn(u8) -> String| -> Vec<u8> {
@@ -157,7 +156,7 @@ mod tests {
         };
         assert_eq!(known(status), [0, 3, 4, 5, 6, 7, 8, 9, 10, 11]);
         assert_eq!(known(fault), [1, 2, 3, 4, 5, 6]);
-        assert_eq!(known(refusal), (1..=12).collect::<Vec<u8>>());
+        assert_eq!(known(refusal), [1, 2, 3, 4, 5, 6, 8, 9, 10, 11, 12]);
         for words in [status, fault, refusal] {
             let mut phrases: Vec<String> = known(words)
                 .into_iter()

@@ -50,7 +50,9 @@ pub struct Counts {
     parts: u64,
     empty_parts: u64,
     /// Ticks given a record and a step whose sum does not fit 64 bits.
-    overruns_tried: u64,
+    beyond: u64,
+    /// Those of them that 1 refused.
+    beyond_refused: u64,
     reset: ResetCounts,
 }
 
@@ -61,7 +63,7 @@ impl Counts {
         let number = usize::from(outcome.answer.number());
         self.calls[place] += 1;
         self.refusals[place][number.min(12)] += 1;
-        self.count_overrun(call);
+        self.count_beyond(call, number);
         self.reset.count(call, outcome);
         match (call, &outcome.answer) {
             (Call::Close { .. }, Answer::Closed(answer)) if answer.number == 0 => {
@@ -91,7 +93,7 @@ impl Counts {
         }
     }
 
-    fn count_overrun(&mut self, call: &Call) {
+    fn count_beyond(&mut self, call: &Call, number: usize) {
         let Call::Tick {
             record, reading, ..
         } = call
@@ -99,11 +101,12 @@ impl Counts {
             return;
         };
         let step = u64::from(reading.wrapping_sub(record.device.reading));
-        let overruns = record.device.connections.iter().any(|connection| {
+        let is_beyond = record.device.connections.iter().any(|connection| {
             connection.silence.checked_add(step).is_none()
                 || connection.quiet.checked_add(step).is_none()
         });
-        self.overruns_tried += u64::from(overruns);
+        self.beyond += u64::from(is_beyond);
+        self.beyond_refused += u64::from(is_beyond && number == 1);
     }
 
     fn count_delivery(&mut self, call: &Call, outcome: &Outcome) {
@@ -161,18 +164,14 @@ impl Counts {
         self.nothing += other.nothing;
         self.parts += other.parts;
         self.empty_parts += other.empty_parts;
-        self.overruns_tried += other.overruns_tried;
+        self.beyond += other.beyond;
+        self.beyond_refused += other.beyond_refused;
         self.reset.add(&other.reset);
     }
 
     /// All calls made.
     pub fn total(&self) -> u64 {
         self.calls.iter().sum()
-    }
-
-    /// How often refusal 7 was given, which no record lets happen.
-    pub fn overruns_given(&self) -> u64 {
-        self.refusals.iter().map(|numbers| numbers[7]).sum()
     }
 
     /// Everything that has to come, with how often it came.
@@ -227,7 +226,7 @@ impl Counts {
             ("taken: nothing", self.nothing),
             ("parts with bytes", self.parts),
             ("parts without bytes", self.empty_parts),
-            ("ticks whose sum does not fit 64 bits", self.overruns_tried),
+            ("ticks whose sum does not fit 64 bits", self.beyond),
         ]
         .into_iter()
     }
@@ -252,6 +251,10 @@ impl Counts {
                     failures.push(format!("{name}: refusal {number} came {count} times"));
                 }
             }
+        }
+        if self.beyond_refused < self.beyond {
+            let others = self.beyond - self.beyond_refused;
+            failures.push(format!("tick: {others} sums beyond 64 bits not refused by 1"));
         }
         failures
     }
@@ -298,7 +301,7 @@ impl Counts {
              closures                by fault {}, by the host {}, by tick {}\n\
              taken                   notifications {}, keep-alives {}, nothing {}\n\
              parts                   with bytes {}, empty {}\n\
-             sums beyond 64 bits     tried {}, refusal 7 given {} (such a record breaks a rule: 1)\n\
+             sums beyond 64 bits     tried {}, refused by 1: {}\n\
              calls in all            {}\n\
              kinds that have to come {}, the rarest {} times",
             self.more,
@@ -311,8 +314,8 @@ impl Counts {
             self.nothing,
             self.parts,
             self.empty_parts,
-            self.overruns_tried,
-            self.overruns_given(),
+            self.beyond,
+            self.beyond_refused,
             self.total(),
             self.lines().len(),
             self.rarest()

@@ -15,9 +15,9 @@ const HALF: u32 = 1 << 31;
 
 type Plan = fn(&mut Desk<'_, '_>) -> Checked<()>;
 
-const PLANS: [Plan; 25] = [
+const PLANS: [Plan; 26] = [
     states::freshness,
-    states::overruns,
+    states::beyond_64_bits,
     states::full_table,
     states::wild_records,
     reset::every_text,
@@ -41,6 +41,7 @@ const PLANS: [Plan; 25] = [
     writing::writer,
     reset::mechanisms,
     messages::every_entry,
+    time::greatest_counts,
 ];
 
 /// Goes through all plans.

@@ -88,7 +88,6 @@ pub fn tick(record: &Record, area: &mut [u8], reading: u32) -> Result<(Record, u
         return Err(Refusal::ClockBack);
     }
     let step = u64::from(step);
-    need_no_overrun(record, step)?;
     let mut record = *record;
     record.device.reading = reading;
     let mut closed = 0;
@@ -341,15 +340,6 @@ fn need_open(record: &Record, n: u8) -> Result<(), Refusal> {
 
 fn need_room(output: &[u8]) -> Result<(), Refusal> {
     need(output.len() >= ROOM, Refusal::NoRoom)
-}
-
-/// A record that keeps the rules never overruns; the row is tested all the same.
-fn need_no_overrun(record: &Record, step: u64) -> Result<(), Refusal> {
-    let fits = record.device.connections.iter().all(|connection| {
-        connection.silence.checked_add(step).is_some()
-            && connection.quiet.checked_add(step).is_some()
-    });
-    need(fits, Refusal::Overrun)
 }
 
 fn need(condition: bool, refusal: Refusal) -> Result<(), Refusal> {

@@ -6,7 +6,7 @@ use mathlib.Core.Bool.{cond}
 use lib.ListN.{getD}
 use lib.Dec.{eqb}
 use Rattle.laws.proofs.Inverse.{undone-tells}
-use Rattle.numbers.specs.Refusal.{notRefused, badRecord, badArea, noConnection, clockBack}
+use Rattle.numbers.specs.Refusal.{notRefused, badRecord, badArea, noConnection}
 use Rattle.numbers.specs.Kind.{kindMore, kindMessage, kindNothing, kindNotification, kindUnchanged}
 use Rattle.answers.specs.Numbers.{clearingNumbers, openingNumbers, closingNumbers, tickingNumbers, deliveryNumbers, takingNumbers, resettingNumbers}
 use Rattle.answers.specs.Tell.{AnswersTell}
@@ -60,7 +60,7 @@ tickingBack : List ℕ → Ticking
 tickingBack l =
     cond (eqb (getD l 0 0) notRefused) (ticking.Closed (getD l 1 0))
     (cond (eqb (getD l 0 0) badRecord) ticking.BadRecord
-    (cond (eqb (getD l 0 0) badArea) ticking.BadArea (cond (eqb (getD l 0 0) clockBack) ticking.ClockBack ticking.Overrun)))
+    (cond (eqb (getD l 0 0) badArea) ticking.BadArea ticking.ClockBack))
 
 ticking-back : (a : Ticking) → tickingBack (tickingNumbers a) ≡ a
 unfolding tickingBack
@@ -68,7 +68,6 @@ ticking-back (ticking.Closed mask) = refl
 ticking-back ticking.BadRecord = refl
 ticking-back ticking.BadArea = refl
 ticking-back ticking.ClockBack = refl
-ticking-back ticking.Overrun = refl
 
 decidedBack : List ℕ → Delivery
 decidedBack l =

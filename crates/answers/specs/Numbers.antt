@@ -2,7 +2,7 @@
 use Prim.Native.Nat.{ℕ}
 use mathlib.Core.List.{List, [], _∷_}
 use lib.ListN.{getD}
-use Rattle.numbers.specs.Refusal.{notRefused, badRecord, badArea, noConnection, noRoom, tableFull, clockBack, overrun}
+use Rattle.numbers.specs.Refusal.{notRefused, badRecord, badArea, noConnection, noRoom, tableFull, clockBack}
 use Rattle.numbers.specs.Kind.{kindMore, kindMessage, kindClosed}
 use Rattle.numbers.specs.Kind.{kindNothing, kindNotification, kindKeepAlive, kindUnchanged, kindReset}
 use Rattle.answers.specs.declared.Clearing.{Clearing}
@@ -45,7 +45,6 @@ tickingNumbers (ticking.Closed mask) = notRefused ∷ mask ∷ []
 tickingNumbers ticking.BadRecord = badRecord ∷ []
 tickingNumbers ticking.BadArea = badArea ∷ []
 tickingNumbers ticking.ClockBack = clockBack ∷ []
-tickingNumbers ticking.Overrun = overrun ∷ []
 
 -- R66. The answers of deliver, each with the bytes taken.
 abbrev pub deliveryNumbers : Delivery → List ℕ

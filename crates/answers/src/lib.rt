@@ -34,7 +34,6 @@ pub enum Ticking {
     BadRecord,
     BadArea,
     ClockBack,
-    Overrun,
 }
 
 // Of a delivery.
@@ -148,7 +147,6 @@ impl Ticking {
             Ticking::BadRecord => refusal(numbers::BAD_RECORD),
             Ticking::BadArea => refusal(numbers::BAD_AREA),
             Ticking::ClockBack => refusal(numbers::CLOCK_BACK),
-            Ticking::Overrun => refusal(numbers::OVERRUN),
         }
     }
 }

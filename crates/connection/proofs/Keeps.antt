@@ -13,7 +13,7 @@ use Rattle.heartbeat.specs.declared.Heartbeat.{Heartbeat}
 use Rattle.heartbeat.specs.declared.Heartbeat.the-variants.{InSeconds, InMilliseconds}
 use Rattle.connection.specs.State.{closed, opened}
 use Rattle.connection.specs.Obeys.{isClosed, isIdle, formObeys, isTimed, connectionObeys}
-use Rattle.connection.specs.Supervision.{fitsStep, closesAt, quietAfter, connectionTicked, heardOf, sentOf, setBeat, beatingOf, heartbeatKept}
+use Rattle.connection.specs.Supervision.{greatestSilence, greatestQuiet, closesAt, quietAfter, connectionTicked, heardOf, sentOf, setBeat, beatingOf, heartbeatKept}
 use Rattle.connection.specs.Kept.{fitsForm, SupervisionKept}
 use Rattle.connection.specs.Setters.{counted, supervised}
 use Rattle.connection.specs.declared.Connection.{Connection}
@@ -192,18 +192,21 @@ telling (InSeconds s) c z =
 telling (InMilliseconds m) c z = rw z
 
 -- ---- what a tick asks and leaves
-fitting : (step : ℕ) (c : Connection) → step < 2 ^ 31 → connectionObeys c ≡ true → fitsStep step c ≡ true
-unfolding fitsStep
+pub fitting : (step : ℕ) (c : Connection) → step < 2 ^ 31 → connectionObeys c ≡ true → (c .silence + step ≤ greatestSilence) × (c .quiet + step ≤ greatestQuiet)
 fitting step c b h =
     ⊎-elim
-    (λ (s : Still c). both (omega (arith, s .silence)) (omega (arith, s .quiet)))
+    (λ (s : Still c). (omega (arith, s .silence), omega (arith, s .quiet)))
     (λ (t : Timed c).
     let top = obeys-bound c h .beat in
-    both (omega (arith, t .early)) (omega (arith, t .quiet)))
+    (omega (arith, t .early), omega (arith, t .quiet)))
     (obeys-view c h)
-  where
-    both : c .silence + step ≤ 18446744073709551615 → c .quiet + step ≤ 18446744073709551615 → fitsStep step c ≡ true
-    both s q = and-both _ _ (le-leb (c .silence + step) 18446744073709551615 s) (le-leb (c .quiet + step) 18446744073709551615 q)
+
+-- what the code's sums ask for
+pub silence-fits : (step : ℕ) (c : Connection) → (connectionObeys c ≡ true) × (step < 2 ^ 31) → c .silence + step ≤ greatestSilence
+silence-fits step c p = fitting step c (p .1) (p .0) .0
+
+pub quiet-fits : (step : ℕ) (c : Connection) → (connectionObeys c ≡ true) × (step < 2 ^ 31) → c .quiet + step ≤ greatestQuiet
+quiet-fits step c p = fitting step c (p .1) (p .0) .1
 
 leaving : (step : ℕ) (c : Connection) → connectionTicked step c .live ≡ (c .live && not (closesAt step c))
 unfolding connectionTicked closesAt quietAfter

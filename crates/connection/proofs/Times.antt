@@ -1,5 +1,5 @@
 -- A connection's tick and heartbeat, case by case. Assumes nothing.
-use Prim.Native.Nat.{ℕ, _+_, _-_, _*_, _/_, _%_, _^_, _<_, _≤_}
+use Prim.Native.Nat.{ℕ, _+_, _-_, _*_, _/_, _%_, _<_, _≤_}
 use mathlib.Core.Path.{_≡_, refl, sym, ap, _∙_}
 use mathlib.Core.Logic.{_⊎_, ⊎-elim}
 use mathlib.Core.Bool.{Bool, true, false, not, _&&_, _||_}
@@ -18,7 +18,7 @@ use Rattle.heartbeat.specs.declared.Heartbeat.{Heartbeat}
 use Rattle.heartbeat.specs.declared.Heartbeat.the-variants.{InSeconds}
 use Rattle.connection.specs.State.{closed, liveAt, isNotOpen, isDue}
 use Rattle.connection.specs.Obeys.{isClosed, isIdle, formObeys, isTimed, connectionObeys}
-use Rattle.connection.specs.Supervision.{fitsStep, closesAt, quietAfter, connectionTicked, setBeat, heartbeatKept}
+use Rattle.connection.specs.Supervision.{closesAt, quietAfter, connectionTicked, setBeat, heartbeatKept}
 use Rattle.connection.specs.declared.Connection.{Connection}
 use Rattle.connection.specs.Setters.{counted, supervised}
 
@@ -67,35 +67,15 @@ live-below cs n h = go (ltb n (length cs)) refl
         let k : length cs ≤ n = ltb-false n (length cs) e in
         clash (n < length cs) (getD cs n closed .live) h (ap (λ (c : Connection). c .live) (List·getD-eq-default cs closed k))
 
--- ---- the step fits
-pub fit-at : (step : ℕ) (cs : List Connection) (i : ℕ) (d : Connection) → all (fitsStep step) cs ≡ true → i < length cs → fitsStep step (getD cs i d) ≡ true
-fit-at step cs i d e h = all-at (fitsStep step) cs i d e h
+-- ---- one of the connections that a tick goes through
+pub obeys-at : (cs : List Connection) (i : ℕ) (d : Connection) → all connectionObeys cs ≡ true → i < length cs → connectionObeys (getD cs i d) ≡ true
+obeys-at cs i d o h = all-at connectionObeys cs i d o h
 
 -- the place below i
-pub fit-before : (step : ℕ) (cs : List Connection) (i : ℕ) (d : Connection) → all (fitsStep step) cs ≡ true → 0 < i → i ≤ 8 → length cs ≡ 8 → fitsStep step (getD cs (i - 1) d) ≡ true
-fit-before step cs i d e h k z = fit-at step cs (i - 1) d e (omega arith)
+pub obeys-before : (cs : List Connection) (i : ℕ) (d : Connection) → all connectionObeys cs ≡ true → 0 < i → i ≤ 8 → length cs ≡ 8 → connectionObeys (getD cs (i - 1) d) ≡ true
+obeys-before cs i d o h k z = obeys-at cs (i - 1) d o (omega arith)
 
 module _ (step : ℕ) (c : Connection) where
-  pub fits-silence : fitsStep step c ≡ true → c .silence + step ≤ 18446744073709551615
-  unfolding fitsStep
-  fits-silence e = leb-true _ _ (and-left _ _ e)
-
-  pub fits-quiet : fitsStep step c ≡ true → c .quiet + step ≤ 18446744073709551615
-  unfolding fitsStep
-  fits-quiet e = leb-true _ _ (and-right (leb (c .silence + step) 18446744073709551615) _ e)
-
-  pub fits-not-silence : 18446744073709551615 - step < c .silence → false ≡ fitsStep step c
-  unfolding fitsStep
-  fits-not-silence h = rw (lt-leb (c .silence + step) 18446744073709551615 (omega arith))
-
-  pub fits-not-quiet : c .silence ≤ 18446744073709551615 - step → 18446744073709551615 - step < c .quiet → step < 2 ^ 32 → false ≡ fitsStep step c
-  unfolding fitsStep
-  fits-not-quiet k h b = rw (le-leb (c .silence + step) 18446744073709551615 (omega arith), lt-leb (c .quiet + step) 18446744073709551615 (omega arith))
-
-  pub fits-both : c .silence ≤ 18446744073709551615 - step → c .quiet ≤ 18446744073709551615 - step → step < 2 ^ 32 → true ≡ fitsStep step c
-  unfolding fitsStep
-  fits-both k h b = rw (le-leb (c .silence + step) 18446744073709551615 (omega arith), le-leb (c .quiet + step) 18446744073709551615 (omega arith))
-
   -- ---- a tick
   pub quiet-due : c .due ≡ true → c ≡ quietAfter step c
   unfolding quietAfter

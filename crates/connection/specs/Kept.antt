@@ -1,5 +1,5 @@
 -- What supervision keeps, for every connection.
-use Prim.Native.Nat.{ℕ, _+_, _^_, _<_}
+use Prim.Native.Nat.{ℕ, _+_, _^_, _<_, _≤_}
 use mathlib.Core.Path.{_≡_}
 use mathlib.Core.Bool.{Bool, true, false, not, _&&_}
 use lib.Dec.{eqb, leb}
@@ -8,7 +8,8 @@ use Rattle.heartbeat.specs.declared.Heartbeat.{Heartbeat}
 use Rattle.heartbeat.specs.declared.Heartbeat.the-variants.{InSeconds, InMilliseconds}
 use Rattle.connection.specs.State.{closed, opened}
 use Rattle.connection.specs.Obeys.{connectionObeys}
-use Rattle.connection.specs.Supervision.{fitsStep, closesAt, connectionTicked, heardOf, sentOf, beatingOf, heartbeatKept}
+use Rattle.connection.specs.Supervision.{greatestSilence, greatestQuiet, closesAt, connectionTicked}
+use Rattle.connection.specs.Supervision.{heardOf, sentOf, beatingOf, heartbeatKept}
 use Rattle.connection.specs.declared.Connection.{Connection}
 
 -- R15. The value fits the bytes of its form.
@@ -25,8 +26,9 @@ pub record SupervisionKept : Type 0 where
   pub hearing : (c : Connection) → connectionObeys c ≡ true → connectionObeys (heardOf c) ≡ true
   pub sending : (c : Connection) → connectionObeys c ≡ true → connectionObeys (sentOf c) ≡ true
   pub beating : (h : Heartbeat) (c : Connection) → fitsForm h ≡ true → c .live ≡ true → connectionObeys (beatingOf h c) ≡ true
-  -- a connection that obeys takes any step that refusal 6 lets pass
-  pub fitting : (step : ℕ) (c : Connection) → step < 2 ^ 31 → connectionObeys c ≡ true → fitsStep step c ≡ true
+  -- what the counts of a connection that obeys come to at most, with a step that refusal 6 lets pass
+  pub fitting : (step : ℕ) (c : Connection) → step < 2 ^ 31 → connectionObeys c ≡ true
+      → (c .silence + step ≤ greatestSilence) × (c .quiet + step ≤ greatestQuiet)
   -- a tick closes exactly what it says
   pub leaving : (step : ℕ) (c : Connection) → connectionTicked step c .live ≡ (c .live && not (closesAt step c))
   -- a tick that leaves a supervised connection open adds the step to its silence and keeps its H

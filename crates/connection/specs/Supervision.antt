@@ -9,13 +9,13 @@ use Rattle.connection.specs.Setters.{counted, supervised}
 use Rattle.connection.specs.State.{closed}
 use Rattle.connection.specs.declared.Connection.{Connection}
 
--- R53. The greatest number of 64 bits.
-abbrev pub topCount : ℕ
-topCount = 18446744073709551615
+-- R53. The greatest that silence comes to with a step: 3 × H less 1, H the greatest there is, and 2^31 less 1.
+abbrev pub greatestSilence : ℕ
+greatestSilence = 15032385531
 
--- R63. Refusal 7 does not apply to a connection: silence and quiet plus the step fit 64 bits.
-unfoldable pub fitsStep : ℕ → Connection → Bool
-fitsStep step c = leb (c .silence + step) topCount && leb (c .quiet + step) topCount
+-- R54. The greatest that quiet comes to with a step: H less 1, H the greatest there is, and 2^31 less 1.
+abbrev pub greatestQuiet : ℕ
+greatestQuiet = 6442450941
 
 -- R53. With this step the silence comes to three heartbeats or more.
 unfoldable pub closesAt : ℕ → Connection → Bool

@@ -4,12 +4,12 @@ use heartbeat::Milliseconds;
 ghost use mathlib.Core.Path.{_≡_};
 ghost use mathlib.Core.Bool.{true};
 ghost use mathlib.Core.List.{map};
-ghost use Prim.Native.Nat.{_+_, _≤_};
+ghost use Prim.Native.Nat.{_+_, _^_, _<_, _≤_};
 ghost use Rattle.laws.specs.Lists.{all, mask};
 ghost use Rattle.connection.specs.State.{liveAt, lowestFree, lowestDue};
 ghost use Rattle.connection.specs.Obeys.{isClosed, isIdle, formObeys, isTimed, connectionObeys};
 ghost use Rattle.connection.specs.Kept.{SupervisionKept};
-ghost use Rattle.connection.specs.Supervision.{topCount, fitsStep, closesAt, quietAfter, connectionTicked};
+ghost use Rattle.connection.specs.Supervision.{greatestQuiet, closesAt, quietAfter, connectionTicked};
 ghost use Rattle.connection.specs.Supervision.{heardOf, sentOf, setBeat, beatingOf, heartbeatKept};
 
 pub const CONNECTIONS: usize = 8;
@@ -17,8 +17,6 @@ pub const CONNECTIONS: usize = 8;
 pub const TOP_SECONDS: u64 = heartbeat::GREATEST_SECONDS as u64 * 1000;
 
 pub const TOP_MILLISECONDS: u64 = heartbeat::GREATEST_MILLISECONDS as u64;
-
-const TOP_COUNT: u64 = 18446744073709551615;
 
 #[repr(C)]
 pub struct Connection {
@@ -99,21 +97,9 @@ impl Connection {
         self.is_idle()
     }
 
-    pub fn fits(self, step: u32) -> bool
-        ensures { λ r. ⌜ r ≡ fitsStep step self ⌝ }
-    {
-        let left = TOP_COUNT - step as u64;
-        if self.silence > left {
-            return false;
-        }
-        if self.quiet > left {
-            return false;
-        }
-        true
-    }
-
+    // No test that the sum fits: the rules leave silence far below 64 bits.
     pub fn closes(self, step: u32) -> bool
-        requires { ⌜ fitsStep step self ≡ true ⌝ }
+        requires { ⌜ (connectionObeys self ≡ true) × (step < 2 ^ 31) ⌝ }
         ensures { λ r. ⌜ r ≡ closesAt step self ⌝ }
     {
         let silence = self.silence + step as u64;
@@ -121,7 +107,7 @@ impl Connection {
     }
 
     fn quieter(mut self, step: u32) -> Connection
-        requires { ⌜ self .quiet + step ≤ topCount ⌝ }
+        requires { ⌜ self .quiet + step ≤ greatestQuiet ⌝ }
         ensures { λ r. ⌜ r ≡ quietAfter step self ⌝ }
     {
         if self.due {
@@ -138,7 +124,7 @@ impl Connection {
     }
 
     pub fn ticked(mut self, step: u32) -> Connection
-        requires { ⌜ fitsStep step self ≡ true ⌝ }
+        requires { ⌜ (connectionObeys self ≡ true) × (step < 2 ^ 31) ⌝ }
         ensures { λ r. ⌜ r ≡ connectionTicked step self ⌝ }
     {
         if self.beat == 0 {
@@ -256,23 +242,9 @@ pub fn all_obey(connections: [Connection; 8]) -> bool
     true
 }
 
-pub fn all_fit(connections: [Connection; 8], step: u32) -> bool
-    ensures { λ r. ⌜ r ≡ all (fitsStep step) connections ⌝ }
-{
-    let mut i: usize = 0;
-    while i < CONNECTIONS {
-        let c = connections[i];
-        if !c.fits(step) {
-            return false;
-        }
-        i += 1;
-    }
-    true
-}
-
 // Bit n is set where the tick closes connection n.
 pub fn closing(connections: [Connection; 8], step: u32) -> u8
-    requires { ⌜ all (fitsStep step) connections ≡ true ⌝ }
+    requires { ⌜ (all connectionObeys connections ≡ true) × (step < 2 ^ 31) ⌝ }
     ensures { λ r. ⌜ r ≡ mask (closesAt step) connections ⌝ }
 {
     let mut m: u8 = 0;
@@ -290,7 +262,7 @@ pub fn closing(connections: [Connection; 8], step: u32) -> u8
 }
 
 pub fn all_ticked(connections: [Connection; 8], step: u32) -> [Connection; 8]
-    requires { ⌜ all (fitsStep step) connections ≡ true ⌝ }
+    requires { ⌜ (all connectionObeys connections ≡ true) × (step < 2 ^ 31) ⌝ }
     ensures { λ r. ⌜ r ≡ map (connectionTicked step) connections ⌝ }
 {
     let mut out = connections;

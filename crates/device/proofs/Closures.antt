@@ -182,13 +182,13 @@ module _ (d : Device) (reading n : ℕ) (p : Passing d reading) where
   ticking : isExpiring d reading n ≡ true → Gone n d (tickOf d reading .device)
   unfolding tickStep
   ticking c =
-      rw (p .early, p .fits)
+      rw p
       (sweep-gone d reading (map (connectionTicked (stepOf reading (d .reading))) (d .connections)) n (live-ticked ∙ rw (c, and-false)))
 
   staying : liveAt (d .connections) n ≡ true → isExpiring d reading n ≡ false → Stays n d (tickOf d reading .device)
   unfolding tickStep
   staying l c =
-      rw (p .early, p .fits)
+      rw p
       (sweep-stays d reading (map (connectionTicked (stepOf reading (d .reading))) (d .connections)) n (live-ticked ∙ rw (l, c)))
 
 -- ---- a lock that is free again
@@ -212,7 +212,7 @@ expiring : (d : Device) (reading n k at : ℕ) → Passing d reading → isExpir
 unfolding tickStep sweepOf
 expiring d reading n k at p c h e =
     let cs = map (connectionTicked (stepOf reading (d .reading))) (d .connections) in
-    rw (p .early, p .fits)
+    rw p
     (free-locks (sweepOf (advanced d reading cs)) k at h
     (swept-at cs (d .holders) n at (live-ticked d reading n p ∙ rw (c, and-false)) e))
 

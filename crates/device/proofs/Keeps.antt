@@ -4,7 +4,7 @@ use mathlib.Core.Path.{_≡_, refl, ap, _∙_}
 use mathlib.Core.Bool.{Bool, true, false, cond, not, _&&_, _||_}
 use mathlib.Core.List.{List, map}
 use native.Mathlib.Omega.{arith}
-use borrow.Author.Tests.{eqb-true, eqb-false, leb-false, not-false}
+use borrow.Author.Tests.{eqb-true, eqb-false, not-false}
 use lib.Dec.{eqb, leb}
 use lib.ListN.{length, getD, set}
 use lib.Seq.{getD-set-same, getD-set-other}
@@ -15,7 +15,7 @@ use Rattle.heartbeat.specs.declared.Heartbeat.{Heartbeat}
 use Rattle.heartbeat.specs.Beat.{beatOf, formOf}
 use Rattle.connection.specs.State.{closed, opened, liveAt, isNotOpen, lowestFree}
 use Rattle.connection.specs.Obeys.{connectionObeys}
-use Rattle.connection.specs.Supervision.{fitsStep, closesAt, connectionTicked, heardOf, sentOf, setBeat, beatingOf}
+use Rattle.connection.specs.Supervision.{closesAt, connectionTicked, heardOf, sentOf, setBeat, beatingOf}
 use Rattle.connection.specs.Kept.{fitsForm}
 use Rattle.connection.specs.Setters.{supervised}
 use Rattle.connection.specs.declared.Connection.{Connection}
@@ -46,8 +46,7 @@ use Rattle.device.specs.declared.Device.{Device}
 use Rattle.device.specs.declared.Opened.{Opened}
 use Rattle.device.specs.declared.Opening.the-variants.{Number, Full}
 use Rattle.device.specs.declared.Ticked.{Ticked}
-use Rattle.device.specs.declared.Ticking.{Ticking}
-use Rattle.device.specs.declared.Ticking.the-variants.{Closed, ClockBack, Overrun}
+use Rattle.device.specs.declared.Ticking.the-variants.{Closed, ClockBack}
 use Rattle.device.specs.Run.{Ran}
 use Rattle.device.proofs.Commands.{neither-fails}
 
@@ -213,20 +212,9 @@ ticking d reading h = back (leb (2 ^ 31) s)
     keeps : deviceObeys (done .device) ≡ true
     keeps = sweep-keeps d reading _ h (all-map connectionObeys connectionObeys (connectionTicked s) (supervision-kept .ticking s) (d .connections) (obeys-are d h .connections))
 
-    refused : Ticking → Ticked
-    refused a = record { device = d; answer = a }
-
-    over : (t : Bool) → deviceObeys (cond {A = Ticked} t done (refused Overrun) .device) ≡ true
-    over true = keeps
-    over false = h
-
-    back : (t : Bool) → deviceObeys (cond {A = Ticked} t (refused ClockBack) (cond (all (fitsStep s) (d .connections)) done (refused Overrun)) .device) ≡ true
+    back : (t : Bool) → deviceObeys (cond {A = Ticked} t (record { device = d; answer = ClockBack }) done .device) ≡ true
     back true = h
-    back false = over (all (fitsStep s) (d .connections))
-
-fitting : (d : Device) (reading : ℕ) → deviceObeys d ≡ true → leb (2 ^ 31) (stepOf reading (d .reading)) ≡ false → all (fitsStep (stepOf reading (d .reading))) (d .connections) ≡ true
-fitting d reading h e =
-    all-weaken connectionObeys _ (λ (c : Connection). supervision-kept .fitting (stepOf reading (d .reading)) c (leb-false _ _ e)) (d .connections) (obeys-are d h .connections)
+    back false = keeps
 
 -- ---- commands
 -- none of the nine tests applies
@@ -432,7 +420,6 @@ rules-kept =
       telling = telling;
       beating = beating;
       running = running;
-      fitting = fitting;
     }
 
 pub failures-change-nothing : FailuresChangeNothing

@@ -1,23 +1,25 @@
 -- Opening, closing and ticks, case by case. Assumes nothing.
 use Prim.Native.Nat.{ℕ, _<_, _≤_}
 use mathlib.Core.Path.{_≡_, sym, ap, _∙_}
-use mathlib.Core.Bool.{Bool, true, false, not}
+use mathlib.Core.Bool.{Bool, true, false}
 use mathlib.Core.List.{List, map}
 use native.Mathlib.Omega.{arith}
-use borrow.Author.Tests.{le-leb, lt-leb, lt-ltb, le-ltb, not-true, not-false}
+use borrow.Author.Tests.{le-leb, lt-leb, lt-ltb, le-ltb}
 use lib.ListN.{length, getD, set}
 use lib.Seq.{set-out}
 use Rattle.laws.specs.Lists.{all, mask}
 use Rattle.laws.proofs.Tables.{any-index, getD-any}
 use Rattle.heartbeat.specs.declared.Heartbeat.{Heartbeat}
+use Rattle.connection.specs.Obeys.{connectionObeys}
 use Rattle.connection.specs.State.{closed, opened, liveAt, isNotOpen, lowestFree}
-use Rattle.connection.specs.Supervision.{fitsStep, closesAt, connectionTicked, heardOf, sentOf, beatingOf}
+use Rattle.connection.specs.Supervision.{closesAt, connectionTicked, heardOf, sentOf, beatingOf}
 use Rattle.connection.specs.declared.Connection.{Connection}
 use Rattle.connection.proofs.Times.{live-below}
 use Rattle.subscription.specs.State.{sweptOf}
 use Rattle.subscription.specs.declared.Subscription.{Subscription}
 use Rattle.holders.specs.Holders.{sweptHolder}
 use Rattle.device.specs.Setters.{withConnections, withSubscriptions, withHolders}
+use Rattle.device.specs.Obeys.{deviceObeys}
 use Rattle.device.specs.State.{openOf, sweepOf, closeOf, closingOf, atConnection, heardAt, sentAt, beatingAt}
 use Rattle.device.specs.Time.{stepOf, advanced, tickStep, tickOf}
 use Rattle.device.specs.declared.Device.{Device}
@@ -27,7 +29,7 @@ use Rattle.device.specs.declared.Closed.{Closed}
 use Rattle.device.specs.declared.Closing.the-variants.{Done, NotOpen}
 use Rattle.device.specs.declared.Ticked.{Ticked}
 use Rattle.device.specs.declared.Ticking.the-variants as ticks
-use Rattle.device.specs.declared.Ticking.the-variants.{ClockBack, Overrun}
+use Rattle.device.proofs.Keeps.{obeys-are}
 
 -- ---- one connection changed
 pub shut-out : (cs : List Connection) (n : ℕ) → length cs ≡ 8 → 8 ≤ n → cs ≡ set cs n closed
@@ -92,18 +94,14 @@ unfolding sweepOf
 swept-all d cs ss hs p q = rw (p, q)
 
 -- ---- a tick
-pub fit-known : (step : ℕ) (cs : List Connection) (b : Bool) → b ≡ all (fitsStep step) cs → not b ≡ false → all (fitsStep step) cs ≡ true
-fit-known step cs b q t = sym q ∙ not-false b t
+pub tick-ready : (d : Device) (step : ℕ) → deviceObeys d ≡ true → step < 2147483648 → (all connectionObeys (d .connections) ≡ true) × (step < 2147483648)
+tick-ready d step h b = (obeys-are d h .connections, b)
 
 module _ (d : Device) (reading s : ℕ) (e : s ≡ stepOf reading (d .reading)) where
-  pub tick-back : 2147483648 ≤ s → _≡_ {A = Ticked} (record { device = d; answer = ClockBack }) (tickOf d reading)
+  pub tick-back : 2147483648 ≤ s → _≡_ {A = Ticked} (record { device = d; answer = ticks.ClockBack }) (tickOf d reading)
   unfolding tickStep
   tick-back h = rw (← e, le-leb _ _ h)
 
-  pub tick-over : (b : Bool) → s < 2147483648 → b ≡ all (fitsStep s) (d .connections) → not b ≡ true → _≡_ {A = Ticked} (record { device = d; answer = Overrun }) (tickOf d reading)
+  pub tick-done : (m : ℕ) (cs : List Connection) (r : Device) → s < 2147483648 → m ≡ mask (closesAt s) (d .connections) → cs ≡ map (connectionTicked s) (d .connections) → r ≡ sweepOf (advanced d reading cs) → _≡_ {A = Ticked} (record { device = r; answer = ticks.Closed m }) (tickOf d reading)
   unfolding tickStep
-  tick-over b h q t = rw (← e, lt-leb _ _ h, ← q, not-true b t)
-
-  pub tick-done : (b : Bool) (m : ℕ) (cs : List Connection) (r : Device) → s < 2147483648 → b ≡ all (fitsStep s) (d .connections) → not b ≡ false → m ≡ mask (closesAt s) (d .connections) → cs ≡ map (connectionTicked s) (d .connections) → r ≡ sweepOf (advanced d reading cs) → _≡_ {A = Ticked} (record { device = r; answer = ticks.Closed m }) (tickOf d reading)
-  unfolding tickStep
-  tick-done b m cs r h q t em ec er = rw (← e, lt-leb _ _ h, ← q, not-false b t, em, er, ec)
+  tick-done m cs r h em ec er = rw (← e, lt-leb _ _ h, em, er, ec)

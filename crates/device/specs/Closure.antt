@@ -5,9 +5,8 @@ use mathlib.Core.Bool.{Bool, true, false, cond, _&&_}
 use mathlib.Core.List.{List, [], map}
 use lib.Dec.{eqb, leb}
 use lib.ListN.{getD, set}
-use Rattle.laws.specs.Lists.{all}
 use Rattle.connection.specs.State.{closed, liveAt}
-use Rattle.connection.specs.Supervision.{fitsStep, closesAt}
+use Rattle.connection.specs.Supervision.{closesAt}
 use Rattle.subscription.specs.State.{free}
 use Rattle.subscription.specs.declared.Subscription.{Subscription}
 use Rattle.numbers.specs.Status.{carriedOut}
@@ -64,9 +63,8 @@ freedOf d n =
     (map (λ (h : ℕ). cond (isLockOf n h) 0 h) (d .holders))
 
 -- R56. A tick that is not refused.
-pub record Passing (d : Device) (reading : ℕ) : Type 0 where
-  pub early : leb (2 ^ 31) (stepOf reading (d .reading)) ≡ false
-  pub fits : all (fitsStep (stepOf reading (d .reading))) (d .connections) ≡ true
+abbrev pub Passing : Device → ℕ → Type 0
+Passing d reading = leb (2 ^ 31) (stepOf reading (d .reading)) ≡ false
 
 -- R53. That tick closes connection n.
 abbrev pub isExpiring : Device → ℕ → ℕ → Bool

@@ -1,19 +1,17 @@
 -- R41, R62. What every call keeps of the device.
-use Prim.Native.Nat.{ℕ, _^_}
+use Prim.Native.Nat.{ℕ}
 use mathlib.Core.Path.{_≡_}
 use mathlib.Core.Bool.{true, false}
 use mathlib.Core.List.{List}
-use lib.Dec.{eqb, leb}
-use Rattle.laws.specs.Lists.{all}
+use lib.Dec.{eqb}
 use Rattle.heartbeat.specs.declared.Heartbeat.{Heartbeat}
 use Rattle.connection.specs.State.{liveAt}
-use Rattle.connection.specs.Supervision.{fitsStep}
 use Rattle.connection.specs.Kept.{fitsForm}
 use Rattle.numbers.specs.Status.{carriedOut}
 use Rattle.objects.specs.Answers.{failedOf}
 use Rattle.device.specs.State.{freshOf, openOf, closeOf, heardAt, sentAt, toldAt, beatingAt}
 use Rattle.device.specs.Obeys.{deviceObeys}
-use Rattle.device.specs.Time.{stepOf, tickOf}
+use Rattle.device.specs.Time.{tickOf}
 use Rattle.device.specs.Run.{statusOf, unchanged, runOf}
 use Rattle.device.specs.declared.Device.{Device}
 
@@ -29,9 +27,6 @@ pub record RulesKept : Type 0 where
   pub beating : (d : Device) (n : ℕ) (h : Heartbeat) → fitsForm h ≡ true → deviceObeys d ≡ true → deviceObeys (beatingAt d n h) ≡ true
   pub running : (d : Device) (n target m count : ℕ) (part : List ℕ) → liveAt (d .connections) n ≡ true → deviceObeys d ≡ true
       → deviceObeys (runOf d n target m count part .device) ≡ true
-  -- refusal 7 never applies to a record that obeys
-  pub fitting : (d : Device) (reading : ℕ) → deviceObeys d ≡ true → leb (2 ^ 31) (stepOf reading (d .reading)) ≡ false
-      → all (fitsStep (stepOf reading (d .reading))) (d .connections) ≡ true
 
 -- Theorem. A command whose status is not 0 carries no parameters and changes nothing.
 pub record FailuresChangeNothing : Type 0 where

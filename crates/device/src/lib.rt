@@ -4,6 +4,7 @@ use heartbeat::Heartbeat;
 use mechanism::Mechanism;
 use subscription::Subscription;
 ghost use mathlib.Core.Path.{_≡_};
+ghost use mathlib.Core.Bool.{true};
 ghost use Prim.Native.Nat.{_<_};
 ghost use lib.ListN.{set};
 ghost use Rattle.connection.specs.State.{closed};
@@ -50,7 +51,6 @@ pub struct Closed {
 pub enum Ticking {
     Closed(u8),
     ClockBack,
-    Overrun,
 }
 
 pub struct Ticked {
@@ -190,8 +190,9 @@ impl Device {
         }
     }
 
-    // Time passes, to `reading`.
+    // Time passes, to `reading`: the rules leave every count room for its step.
     pub fn tick(mut self, reading: u32) -> Ticked
+        requires { ⌜ deviceObeys self ≡ true ⌝ }
         ensures { λ r. ⌜ r ≡ tickOf self reading ⌝ }
     {
         let last = self.reading;
@@ -203,12 +204,6 @@ impl Device {
             };
         }
         let connections = self.connections;
-        if !connection::all_fit(connections, step) {
-            return Ticked {
-                device: self,
-                answer: Ticking::Overrun,
-            };
-        }
         let mask = connection::closing(connections, step);
         let next = connection::all_ticked(connections, step);
         self.reading = reading;

@@ -9,19 +9,21 @@ use native.Mathlib.Omega.{arith}
 use lib.ListN.{length, take, drop, set, getD, drop-of-length-le}
 use lib.Seq.{take-all}
 use borrow.Author.Tests.{eq-eqb, not-true, not-false}
+use Rattle.laws.proofs.Conds.{and-left}
 use Rattle.octets.specs.Zeros.{zeros}
 use Rattle.area.specs.Area.{areaBytes, areaSound, partCleared, closedCleared, heldKept}
 use Rattle.area.proofs.Lies.{area-long}
 use Rattle.connection.specs.State.{liveAt}
 use Rattle.connection.specs.declared.Connection.{Connection}
 use Rattle.device.specs.State.{openOf, livesIn}
+use Rattle.device.specs.Obeys.{deviceObeys}
 use Rattle.device.specs.Time.{tickOf}
 use Rattle.device.specs.declared.Opened.{Opened}
 use Rattle.device.specs.declared.Opening.the-variants as opening
 use Rattle.device.specs.declared.Ticked.{Ticked}
 use Rattle.device.specs.declared.Ticking.the-variants as ticking
 use Rattle.endpoint.specs.State.{stateOf, recordObeys, closedState}
-use Rattle.numbers.specs.Refusal.{badRecord, badArea, noConnection, tableFull, clockBack, overrun}
+use Rattle.numbers.specs.Refusal.{badRecord, badArea, noConnection, tableFull, clockBack}
 use Rattle.endpoint.specs.Outcome.{Outcome, outcome, refused}
 use Rattle.endpoint.specs.Calls.{clearAnswer, clearedArea, openedBy, openCall, closeCall, tickedBy, tickCall}
 use Rattle.endpoint.specs.declared.Record.{Record}
@@ -87,10 +89,6 @@ module _ (r : Record) (area : List ℕ) (reading : ℕ) (k : Ticked) (q : k ≡ 
   unfolding tickedBy
   tick-back a = rw (← q, a)
 
-  pub tick-over : k .answer ≡ ticking.Overrun → refused overrun r area [] ≡ After
-  unfolding tickedBy
-  tick-over a = rw (← q, a)
-
 -- b is what the call that tests the record gave
 module _ (r : Record) (b : Bool) (tested : b ≡ recordObeys r) where
   pub open-bad : not b ≡ true → refused badRecord r [] [] ≡ openCall r
@@ -109,6 +107,10 @@ module _ (r : Record) (b : Bool) (tested : b ≡ recordObeys r) where
   pub close-bad : not b ≡ true → (area : List ℕ) (n : ℕ) → refused badRecord r area [] ≡ closeCall r area n
   unfolding closeCall
   close-bad t area n = rw (← tested, not-true b t)
+
+  pub tested-device : not b ≡ false → deviceObeys (r .device) ≡ true
+  unfolding recordObeys
+  tested-device t = and-left (deviceObeys (r .device)) _ (sym tested ∙ not-false b t)
 
   pub tick-bad : not b ≡ true → (area : List ℕ) (reading : ℕ) → refused badRecord r area [] ≡ tickCall r area reading
   unfolding tickCall

@@ -21,7 +21,7 @@ use Rattle.answers.specs.declared.Opening.the-variants as opening
 use Rattle.answers.specs.declared.Closing.the-variants as closing
 use Rattle.answers.specs.declared.Ticking.the-variants as ticking
 use Rattle.endpoint.specs.State.{stateOf, recordObeys, closedState}
-use Rattle.numbers.specs.Refusal.{badRecord, badArea, noConnection, tableFull, clockBack, overrun}
+use Rattle.numbers.specs.Refusal.{badRecord, badArea, noConnection, tableFull, clockBack}
 use Rattle.endpoint.specs.Outcome.{Outcome, outcome, refused}
 use Rattle.endpoint.specs.declared.Record.{Record}
 
@@ -59,9 +59,8 @@ tickedBy (ticks.Closed mask) r t area =
     outcome (tickingNumbers (ticking.Closed mask))
     (stateOf (t .device) (heldKept (livesIn (t .device)) (r .held))) (closedCleared (livesIn (t .device)) area) []
 tickedBy ticks.ClockBack r t area = refused clockBack r area []
-tickedBy ticks.Overrun r t area = refused overrun r area []
 
--- R56, R64. Tick: 1, then 2, then 6, then 7, else the connections that it closed.
+-- R56, R64. Tick: 1, then 2, then 6, else the connections that it closed.
 unfoldable pub tickCall : Record → List ℕ → ℕ → Outcome
 tickCall r area reading =
     cond (recordObeys r)

@@ -7,10 +7,12 @@ use answers::Taking;
 use answers::Ticking;
 use device::Device;
 ghost use mathlib.Core.Path.{_≡_};
+ghost use mathlib.Core.Bool.{true};
 ghost use mathlib.Core.List.{[]};
 ghost use Prim.Native.Nat.{_<_};
 ghost use lib.ListN.{length};
 ghost use Rattle.area.specs.Area.{areaBytes};
+ghost use Rattle.device.specs.Obeys.{deviceObeys};
 ghost use Rattle.device.specs.Time.{tickOf};
 ghost use Rattle.device.specs.State.{livesIn};
 ghost use Rattle.endpoint.specs.State.{closedState};
@@ -184,7 +186,7 @@ impl Record {
 
     // Time passes for a record and an area that are not refused.
     fn pass(mut self, area: &mut [u8], reading: u32) -> Ticked
-        requires { ⌜ length (now area) ≡ areaBytes ⌝ }
+        requires { ⌜ (length (now area) ≡ areaBytes) × (deviceObeys (self .device) ≡ true) ⌝ }
         ensures { λ r. ⌜ outcome (tickingNumbers (r .answer)) (r .state) (now (area .exit)) []
             ≡ tickedBy (tickOf (self .device) reading .answer) self (tickOf (self .device) reading) (now (area .entry)) ⌝ }
     {
@@ -209,10 +211,6 @@ impl Record {
             device::Ticking::ClockBack => Ticked {
                 state: self,
                 answer: Ticking::ClockBack,
-            },
-            device::Ticking::Overrun => Ticked {
-                state: self,
-                answer: Ticking::Overrun,
             },
         }
     }

@@ -1,2 +1,3 @@
 pub mod Tellings
 pub mod Handed
+pub mod Told

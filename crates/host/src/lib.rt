@@ -7,6 +7,7 @@ ghost use Rattle.numbers.specs.Kind.{kindClosed};
 ghost use Rattle.host.specs.Answers.{faultIn, lengthIn};
 ghost use Rattle.host.specs.Promises.{FreshHands, ClearHands, OpenHands, CloseHands, TickHands, DeliverHands};
 ghost use Rattle.host.specs.Promises.{TakeHands, DatagramHands, HandedTell};
+ghost use Rattle.host.specs.Told.{NumbersTold};
 
 pub mod messages;
 
@@ -210,4 +211,9 @@ pub extern "C" fn melorwyth_datagram(state: Record, area: &mut [u8], datagram: &
 // Two results of a function that its promise allows are equal.
 pub fn handed_tell()
     ensures { λ _. ⌜ HandedTell ⌝ }
+{}
+
+// Every number that is told is 0 or a refusal of the table, and 7 is none.
+pub fn numbers_told()
+    ensures { λ _. ⌜ NumbersTold ⌝ }
 {}

@@ -30,10 +30,6 @@ tableFull = 5
 abbrev pub clockBack : ℕ
 clockBack = 6
 
--- R63. The step would take silence or quiet out of 64 bits.
-abbrev pub overrun : ℕ
-overrun = 7
-
 -- R63. The bytes decide a fault.
 abbrev pub fault : ℕ
 fault = 8
@@ -54,6 +50,6 @@ badEntry = 11
 abbrev pub noEntry : ℕ
 noEntry = 12
 
--- R63. All of them, in order.
+-- R63. All of them, in order; 7 is none.
 abbrev pub refusals : List ℕ
-refusals = badRecord ∷ badArea ∷ noConnection ∷ noRoom ∷ tableFull ∷ clockBack ∷ overrun ∷ fault ∷ short ∷ tooLong ∷ badEntry ∷ noEntry ∷ []
+refusals = badRecord ∷ badArea ∷ noConnection ∷ noRoom ∷ tableFull ∷ clockBack ∷ fault ∷ short ∷ tooLong ∷ badEntry ∷ noEntry ∷ []

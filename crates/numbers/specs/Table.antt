@@ -1,14 +1,14 @@
 -- R17, R40, R63, R66. Each name with its number: a number changed elsewhere is refused here.
 use mathlib.Core.Path.{_≡_}
 use Rattle.numbers.specs.Refusal.{notRefused, badRecord, badArea, noConnection, noRoom, tableFull}
-use Rattle.numbers.specs.Refusal.{clockBack, overrun, fault, short, tooLong, badEntry, noEntry}
+use Rattle.numbers.specs.Refusal.{clockBack, fault, short, tooLong, badEntry, noEntry}
 use Rattle.numbers.specs.Fault.{faultStart, faultVersion, faultSize, faultType, faultCount, faultData}
 use Rattle.numbers.specs.Kind.{kindMore, kindMessage, kindClosed}
 use Rattle.numbers.specs.Kind.{kindNothing, kindNotification, kindKeepAlive, kindUnchanged, kindReset}
 use Rattle.numbers.specs.Status.{noObject, noMethod, forbidden, malformed, heldByOther}
 use Rattle.numbers.specs.Status.{strangeEmitter, badValue, outOfTurn, noFreeEntry, carriedOut}
 
--- R63. The refusals, name by number.
+-- R63. The refusals, name by number; no name has 7.
 pub record RefusalTable : Type 0 where
   pub refusal0 : notRefused ≡ 0
   pub refusal1 : badRecord ≡ 1
@@ -17,7 +17,6 @@ pub record RefusalTable : Type 0 where
   pub refusal4 : noRoom ≡ 4
   pub refusal5 : tableFull ≡ 5
   pub refusal6 : clockBack ≡ 6
-  pub refusal7 : overrun ≡ 7
   pub refusal8 : fault ≡ 8
   pub refusal9 : short ≡ 9
   pub refusal10 : tooLong ≡ 10

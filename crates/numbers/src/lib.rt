@@ -8,7 +8,7 @@ ghost use Rattle.numbers.specs.Table.{NumbersTable};
 
 pub const NOT_REFUSED: u8 = 0;
 
-// The refusals of a call.
+// The refusals of a call; 7 is none.
 pub const BAD_RECORD: u8 = 1;
 
 pub const BAD_AREA: u8 = 2;
@@ -20,8 +20,6 @@ pub const NO_ROOM: u8 = 4;
 pub const TABLE_FULL: u8 = 5;
 
 pub const CLOCK_BACK: u8 = 6;
-
-pub const OVERRUN: u8 = 7;
 
 pub const FAULT: u8 = 8;
 
@@ -85,7 +83,7 @@ pub const NO_FREE_ENTRY: u8 = 10;
 pub const CARRIED_OUT: u8 = 0;
 
 // The code's numbers are those of the definitions.
-pub fn refusals() -> [u8; 12]
+pub fn refusals() -> [u8; 11]
     ensures { λ r. ⌜ r ≡ refusals ⌝ }
 {
     [
@@ -95,7 +93,6 @@ pub fn refusals() -> [u8; 12]
         NO_ROOM,
         TABLE_FULL,
         CLOCK_BACK,
-        OVERRUN,
         FAULT,
         SHORT,
         TOO_LONG,

@@ -122,7 +122,6 @@ module _ (d : Device) (h : Held) (good : GoodAt d h) where
           ≡ leaving h (rules.tickBy x d (tickOf d reading .device))
       go (ticks.Closed m) = rw (ticked-counts reading, ticked-area reading)
       go ticks.ClockBack = rw same
-      go ticks.Overrun = rw same
 
   pub take-told : (out : List ℕ) → Told d h (ask (taking out))
   unfolding callOf takeCall step whole rule outcomeOf takeBy takenBy notifying reminding

@@ -9,7 +9,7 @@ use borrow.Author.Tests.{eqb-true, eqb-false, eq-eqb, not-true}
 use lib.Dec.{eqb, ltb, leb}
 use lib.ListN.{length, getD, set, take, drop, List·getD-map}
 use lib.Seq.{getD-set-same, getD-set-other, set-out}
-use Rattle.laws.specs.Lists.{all, any}
+use Rattle.laws.specs.Lists.{any}
 use Rattle.laws.proofs.Conds.{and-left, and-right, either}
 use Rattle.laws.proofs.Tables.{clash, or-neither}
 use Rattle.octets.specs.Zeros.{zeros}
@@ -23,7 +23,6 @@ use Rattle.fields.specs.Fields.{commandOf}
 use Rattle.area.specs.Area.{areaBytes}
 use Rattle.mechanism.specs.Datagram as datagrams
 use Rattle.connection.specs.State.{liveAt, isNotOpen}
-use Rattle.connection.specs.Supervision.{fitsStep}
 use Rattle.connection.specs.declared.Connection.{Connection}
 use Rattle.objects.specs.Methods.{lockMethod, placeOf, isObject, isLocking, isMute}
 use Rattle.objects.specs.Tests.{isForbidden}
@@ -160,10 +159,8 @@ whole-free d at (asked (ticking reading)) e a = go (tickOf d reading .answer)
 
     go : (x : Ticking) → getD (ruling.tickBy x d (tickOf d reading .device) .0 .holders) at 0 ≡ 0
     go (ticks.Closed k) =
-        either P (leb (2 ^ 31) (stepOf reading (d .reading))) _ _ e
-        (either P (all (fitsStep (stepOf reading (d .reading))) (d .connections)) _ _ (swept-free _ (d .holders) at e) e)
+        either P (leb (2 ^ 31) (stepOf reading (d .reading))) _ _ e (swept-free _ (d .holders) at e)
     go ticks.ClockBack = e
-    go ticks.Overrun = e
 whole-free d at (asked (taking out)) e a =
     take-ways (λ (x : Device). getD (x .holders) at 0 ≡ 0) d out (ltb (length out) leastOutput) e e e
 whole-free d at (asked (datagram g)) e a = go (datagrams.resets (d .mechanism) g)

@@ -328,7 +328,7 @@ module _ (r : Record) (area : List ℕ) (w : Kept r area) where
 
     swept : tickOf (r .device) reading .device ≡ sweepOf (advanced (r .device) reading next)
     unfolding tickStep next
-    swept = rw (t .timely .early, t .timely .fits)
+    swept = rw (t .timely)
 
     bit-is : (n : ℕ) → bitOf mask n ≡ closesAt (stepAt r reading) (getD (r .device .connections) n closed)
     bit-is n = go (ltb n 8) refl

@@ -7,7 +7,7 @@ use native.Mathlib.Omega.{arith}
 use lib.Dec.{ltb, eqb, leb}
 use lib.ListN.{length, getD, length-set, length-map, List·getD-map}
 use borrow.Author.Tests.{eqb-true}
-use Rattle.laws.specs.Lists.{all, any, mask}
+use Rattle.laws.specs.Lists.{any, mask}
 use Rattle.laws.proofs.Conds.{either}
 use Rattle.octets.specs.Numbers.{Octets}
 use Rattle.frame.specs.Decide.{decide, taken}
@@ -17,7 +17,7 @@ use Rattle.frame.specs.Scaffold.{SoundAt}
 use Rattle.frame.proofs.Sounds.{sound-at}
 use Rattle.mechanism.specs.Datagram.{resets}
 use Rattle.connection.specs.State.{closed, opened, liveAt, isNotOpen, lowestFree, lowestDue}
-use Rattle.connection.specs.Supervision.{fitsStep, closesAt, connectionTicked}
+use Rattle.connection.specs.Supervision.{closesAt, connectionTicked}
 use Rattle.connection.specs.declared.Connection.{Connection}
 use Rattle.connection.proofs.Keeps.{supervision-kept}
 use Rattle.subscription.specs.State.{lowestWaiting}
@@ -68,8 +68,7 @@ pub length-tick : (d : Device) (reading : ℕ) → length (tickOf d reading .dev
 unfolding tickStep sweepOf
 length-tick d reading =
     let step = stepOf reading (d .reading) in
-    either P (leb (2 ^ 31) step) _ _ refl
-    (either P (all (fitsStep step) (d .connections)) _ _ (length-map (d .connections) (connectionTicked step)) refl)
+    either P (leb (2 ^ 31) step) _ _ refl (length-map (d .connections) (connectionTicked step))
   where
     P : Ticked → Type 0
     P t = length (t .device .connections) ≡ length (d .connections)
@@ -123,7 +122,6 @@ keeps d (asked (ticking reading)) f a = go (tickOf d reading .answer)
     go : (x : Ticking) → Fine (rules.tickBy x d (tickOf d reading .device) .0)
     go (ticks.Closed m) = record { obeys = rules-kept .ticking d reading (f .obeys); eight = length-tick d reading ∙ f .eight }
     go ticks.ClockBack = f
-    go ticks.Overrun = f
 keeps d (asked (taking out)) f a =
     take-ways Fine d out (ltb (length out) leastOutput) f (fine-notified d (lowestWaiting (d .subscriptions)) f)
     (fine-sent d (lowestDue (d .connections)) f)
@@ -140,8 +138,7 @@ closed-shape : (d : Device) (reading step m : ℕ) → tickStep d reading step .
     → (tickStep d reading step .device .connections ≡ map (connectionTicked step) (d .connections)) × (mask (closesAt step) (d .connections) ≡ m)
 unfolding tickStep sweepOf
 closed-shape d reading step m =
-    either P (leb (2 ^ 31) step) _ _ (λ q. absurd (let z : _≡_ {A = ℕ} 0 1 = cc in omega arith))
-    (either P (all (fitsStep step) (d .connections)) _ _ (λ q. (refl, cc)) (λ q. absurd (let z : _≡_ {A = ℕ} 0 1 = cc in omega arith)))
+    either P (leb (2 ^ 31) step) _ _ (λ q. absurd (let z : _≡_ {A = ℕ} 0 1 = cc in omega arith)) (λ q. (refl, cc))
   where
     P : Ticked → Type 0
     P t =
@@ -171,7 +168,6 @@ tick-tells : (d : Device) (reading k : ℕ) → k < length (d .connections) → 
     liveAt (s .0 .connections) k ≡ not (cond (eqb (getD (s .1 .answer) 0 0) 0) (bitOf (getD (s .1 .answer) 1 0) k) false)
 unfolding rules.tickBy
 tick-tells d reading k h l ticks.ClockBack q = l
-tick-tells d reading k h l ticks.Overrun q = l
 tick-tells d reading k h l (ticks.Closed m) q = closed-tells d reading (stepOf reading (d .reading)) m k q h l
 
 -- the closure of connection c

@@ -18,7 +18,7 @@ use Rattle.dotted.specs.Text.{isDot, isDigit, isLeading, digitValue, partIf, on
 use Rattle.mechanism.specs.Arguments.{keyIn, textIn, portIn, isMisfit, isMulticast, isGroup, isTextTaken, addressOf, isUntaken, armedBy}
 use Rattle.mechanism.specs.Datagram.{resets}
 use Rattle.connection.specs.State.{liveAt, isNotOpen, isDue}
-use Rattle.connection.specs.Supervision.{fitsStep, closesAt, quietAfter, connectionTicked, heardOf, sentOf, setBeat, beatingOf}
+use Rattle.connection.specs.Supervision.{closesAt, quietAfter, connectionTicked, heardOf, sentOf, setBeat, beatingOf}
 use Rattle.subscription.specs.State.{isUnused, isWaiting, isTwin, markedOf, sweptOf}
 use Rattle.subscription.specs.State as subscriptions
 use Rattle.objects.specs.Methods.{placeOf, isManager, isObject, isTelling, isLocking, isMuting, isSubscribing, hasMethod, isMute}
@@ -39,5 +39,5 @@ use Rattle.promise.specs.Examples.{ExamplesWorked}
 use Rattle.promise.specs.ResetExamples.{ResetWorked}
 
 pub worked : ExamplesWorked × ResetWorked
-unfolding sameBytes isDot isDigit isLeading digitValue partIf oneDigit twoDigits threeDigits textPart onto textFields fourParts ofParts partsOf dottedOf keyIn textIn portIn isMisfit isMulticast isGroup isTextTaken addressOf isUntaken armedBy resets be16At be32At bytes16 bytes32 zeros formOf valueOf beatOf countFault fieldsFault headerFault leastEntry countPlace leastCount countFits entryFits entrySize entriesFill keepAliveFill dataSound decideData decideHeader decide entriesFrom entryBytes parametersOf methodAt commandOf notificationOf responseOf heartbeatOf heartbeatNumbers commandNumbers notificationNumbers responseNumbers messageOf readBy readOf hasEntry fieldsOf entryIn entryBy entries.entryOf partIn partBy partOf headBytes message atFront liveAt isNotOpen isDue fitsStep closesAt quietAfter connectionTicked heardOf sentOf setBeat beatingOf isMute isUnused isWaiting isTwin markedOf subscriptions.toldOf sweptOf placeOf isManager isObject isTelling isLocking isMuting isSubscribing hasMethod isForbidden countOf lengthOf isLengthBad isPairBad isMalformed subscriptionFrom isStrange isEmitterBad isMuteValue isValueBad classOf identificationOf replyOf failedOf answerWith ownerOf isOther holderObeys sweptHolder responseBytes subscriberBytes changeBytes notificationEntry notificationBytes keepAliveBytes freshOf openOf sweepOf closeOf heardAt sentAt toldAt beatingAt tickStep holderAt muteAt isHeldByOther isSubscribed isOutOfTurn isFull firstStatus laterStatus statusOf mutedOf doneOf answerOf ranBy runOf ranWith ranFirst lastOf responseTo responsesOf commandsOf keptAlive soundOf notifiedOf notifying reminding takenBy messageBy openBy closeBy rules.tickBy takeBy resetBy rule beatBytes
+unfolding sameBytes isDot isDigit isLeading digitValue partIf oneDigit twoDigits threeDigits textPart onto textFields fourParts ofParts partsOf dottedOf keyIn textIn portIn isMisfit isMulticast isGroup isTextTaken addressOf isUntaken armedBy resets be16At be32At bytes16 bytes32 zeros formOf valueOf beatOf countFault fieldsFault headerFault leastEntry countPlace leastCount countFits entryFits entrySize entriesFill keepAliveFill dataSound decideData decideHeader decide entriesFrom entryBytes parametersOf methodAt commandOf notificationOf responseOf heartbeatOf heartbeatNumbers commandNumbers notificationNumbers responseNumbers messageOf readBy readOf hasEntry fieldsOf entryIn entryBy entries.entryOf partIn partBy partOf headBytes message atFront liveAt isNotOpen isDue closesAt quietAfter connectionTicked heardOf sentOf setBeat beatingOf isMute isUnused isWaiting isTwin markedOf subscriptions.toldOf sweptOf placeOf isManager isObject isTelling isLocking isMuting isSubscribing hasMethod isForbidden countOf lengthOf isLengthBad isPairBad isMalformed subscriptionFrom isStrange isEmitterBad isMuteValue isValueBad classOf identificationOf replyOf failedOf answerWith ownerOf isOther holderObeys sweptHolder responseBytes subscriberBytes changeBytes notificationEntry notificationBytes keepAliveBytes freshOf openOf sweepOf closeOf heardAt sentAt toldAt beatingAt tickStep holderAt muteAt isHeldByOther isSubscribed isOutOfTurn isFull firstStatus laterStatus statusOf mutedOf doneOf answerOf ranBy runOf ranWith ranFirst lastOf responseTo responsesOf commandsOf keptAlive soundOf notifiedOf notifying reminding takenBy messageBy openBy closeBy rules.tickBy takeBy resetBy rule beatBytes
 worked = (refl, refl)

@@ -6,7 +6,7 @@ use mathlib.Core.List.{List, [], _++_, map}
 use borrow.Author.Tests.{eqb-true, eq-eqb}
 use lib.Dec.{eqb, ltb, leb}
 use lib.ListN.{getD, set, take, drop}
-use Rattle.laws.specs.Lists.{all, any, mask}
+use Rattle.laws.specs.Lists.{any, mask}
 use Rattle.laws.proofs.Tables.{clash}
 use Rattle.heartbeat.specs.declared.Heartbeat.{Heartbeat}
 use Rattle.frame.specs.Limits.{headerEnd, notification, keepAlive, response}
@@ -18,7 +18,7 @@ use Rattle.layout.specs.Message as layouts
 use Rattle.mechanism.specs.Arguments.{isUntaken, armedBy}
 use Rattle.mechanism.specs.declared.Mechanism.{Mechanism}
 use Rattle.connection.specs.State.{opened, liveAt, isNotOpen, lowestFree}
-use Rattle.connection.specs.Supervision.{fitsStep, closesAt, connectionTicked, beatingOf}
+use Rattle.connection.specs.Supervision.{closesAt, connectionTicked, beatingOf}
 use Rattle.subscription.specs.State.{free, twinAt, lowestUnused, markedOf}
 use Rattle.objects.specs.Methods.{lockMethod, unlockMethod, setMethod, addMethod, removeMethod, resetKeyMethod, placeOf, hasMethod}
 use Rattle.objects.specs.Tests.{isMalformed}
@@ -117,7 +117,7 @@ module _ (d : Device) (k : Mechanism) where
 
   pub tick-frame : (reading : ℕ) → tickOf (withMechanism d k) reading ≡ record { device = withMechanism (tickOf d reading .device) k; answer = tickOf d reading .answer }
   unfolding tickStep sweepOf
-  tick-frame reading = go (leb (2 ^ 31) s) (all (fitsStep s) (d .connections))
+  tick-frame reading = go (leb (2 ^ 31) s)
     where
       s : ℕ
       s = stepOf reading (d .reading)
@@ -125,19 +125,15 @@ module _ (d : Device) (k : Mechanism) where
       back : Device → Ticked
       back e = record { device = e; answer = ticks.ClockBack }
 
-      over : Device → Ticked
-      over e = record { device = e; answer = ticks.Overrun }
-
       passed : Device → Ticked
       passed e = record { device = sweepOf (advanced e reading (map (connectionTicked s) (d .connections))); answer = ticks.Closed (mask (closesAt s) (d .connections)) }
 
-      ways : Bool → Bool → Device → Ticked
-      ways a b e = cond a (back e) (cond b (passed e) (over e))
+      ways : Bool → Device → Ticked
+      ways b e = cond b (back e) (passed e)
 
-      go : (a b : Bool) → _≡_ {A = Ticked} (ways a b (withMechanism d k)) (record { device = withMechanism (ways a b d .device) k; answer = ways a b d .answer })
-      go true b = refl
-      go false true = refl
-      go false false = refl
+      go : (b : Bool) → _≡_ {A = Ticked} (ways b (withMechanism d k)) (record { device = withMechanism (ways b d .device) k; answer = ways b d .answer })
+      go true = refl
+      go false = refl
 
 -- ---- a command
 status-frame : (d : Device) (k : Mechanism) (n t m count : ℕ) (part : List ℕ) → statusOf (withMechanism d k) n t m count part ≡ statusOf d n t m count part

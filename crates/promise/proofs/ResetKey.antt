@@ -92,7 +92,6 @@ whole d (asked (ticking reading)) = go (tickOf d reading .answer)
     go : (x : Ticking) → ruling.tickBy x d (tickOf d reading .device) .0 .mechanism ≡ d .mechanism
     go (ticks.Closed mask) = ap (λ (o : Ticked). o .device .mechanism) (tick-frame d (d .mechanism) reading)
     go ticks.ClockBack = refl
-    go ticks.Overrun = refl
 whole d (asked (taking out)) =
     take-ways (λ (x : Device). x .mechanism ≡ d .mechanism) d out (ltb (length out) leastOutput) refl refl refl
 whole d (asked (datagram g)) = go (resets (d .mechanism) g)
@@ -223,7 +222,6 @@ module _ (d : Device) (held : List ℕ) (a b : Mechanism) (w : Alike a b) where
       go : (x : Ticking) → Follows (tickedBy x (holding d held a) (after a) area) (tickedBy x (holding d held b) (after b) area)
       go (ticks.Closed mask) = follow (tickOf d reading .device) _ a b w (0 ∷ mask ∷ []) _ []
       go ticks.ClockBack = same-as (6 ∷ []) area []
-      go ticks.Overrun = same-as (7 ∷ []) area []
 
   taken-follow : (x y : Bool) (out : List ℕ) (i n : ℕ)
       → Follows (withDispatch (holding d held a) (takenBy x y (withMechanism d a) out i n)) (withDispatch (holding d held b) (takenBy x y (withMechanism d b) out i n))

@@ -8,11 +8,11 @@ use native.Mathlib.Nat.{not-suc-le-zero, le-of-suc-le-suc}
 use lib.Dec.{leb}
 use lib.ListN.{length, getD, length-map, List·getD-map}
 use borrow.Author.Tests.{eq-eqb}
-use Rattle.laws.specs.Lists.{all, mask}
+use Rattle.laws.specs.Lists.{mask}
 use Rattle.laws.proofs.Conds.{and-left}
 use Rattle.area.specs.Area.{areaSound, heldKept}
 use Rattle.connection.specs.State.{closed}
-use Rattle.connection.specs.Supervision.{fitsStep, closesAt, connectionTicked}
+use Rattle.connection.specs.Supervision.{closesAt, connectionTicked}
 use Rattle.connection.specs.declared.Connection.{Connection}
 use Rattle.device.specs.State.{sweepOf, livesIn}
 use Rattle.device.specs.Obeys.{deviceObeys}
@@ -48,18 +48,15 @@ pub passed : (r : Record) (area : List ℕ) (reading : ℕ) → passes r area re
 unfolding passes tickCall tickStep tickedBy
 passed r area reading p =
     go (recordObeys r) refl (areaSound (r .held) area) refl (leb (2 ^ 31) (stepAt r reading)) refl
-    (all (fitsStep (stepAt r reading)) (r .device .connections)) refl
   where
     no : false ≡ true → Ticks r area reading
     no e = absurd (let z : _≡_ {A = ℕ} 0 1 = cc in omega arith)
 
-    go : (o : Bool) → recordObeys r ≡ o → (a : Bool) → areaSound (r .held) area ≡ a → (b : Bool) → leb (2 ^ 31) (stepAt r reading) ≡ b
-        → (f : Bool) → all (fitsStep (stepAt r reading)) (r .device .connections) ≡ f → Ticks r area reading
-    go false o a s b e f h = no (rw o at p)
-    go true o false s b e f h = no (rw (o, s) at p)
-    go true o true s true e f h = no (rw (o, s, e) at p)
-    go true o true s false e false h = no (rw (o, s, e, h) at p)
-    go true o true s false e true h = record { obeys = device-obeys r o; timely = record { early = e; fits = h }; given = rw (o, s, e, h) }
+    go : (o : Bool) → recordObeys r ≡ o → (a : Bool) → areaSound (r .held) area ≡ a → (b : Bool) → leb (2 ^ 31) (stepAt r reading) ≡ b → Ticks r area reading
+    go false o a s b e = no (rw o at p)
+    go true o false s b e = no (rw (o, s) at p)
+    go true o true s true e = no (rw (o, s, e) at p)
+    go true o true s false e = record { obeys = device-obeys r o; timely = e; given = rw (o, s, e) }
 
 -- a connection that is not open has no byte
 pub held-none : (lives : List Bool) (held : List ℕ) (n : ℕ) → n < length lives → getD lives n false ≡ false → getD (heldKept lives held) n 0 ≡ 0
@@ -73,7 +70,7 @@ held-none (b ∷ lives) (k ∷ held) (suc n) h e = held-none lives held n (le-of
 pub ticked-at : (r : Record) (reading n : ℕ) → Passing (r .device) reading
     → getD (tickOf (r .device) reading .device .connections) n closed ≡ connectionTicked (stepAt r reading) (getD (r .device .connections) n closed)
 unfolding tickStep sweepOf connectionTicked
-ticked-at r reading n t = rw (t .early, t .fits) (List·getD-map (connectionTicked (stepAt r reading)) (r .device .connections) n closed)
+ticked-at r reading n t = rw t (List·getD-map (connectionTicked (stepAt r reading)) (r .device .connections) n closed)
 
 -- no step closes a connection without a heartbeat
 pub never-idle : (step : ℕ) (c : Connection) → c .beat ≡ 0 → closesAt step c ≡ false
@@ -102,15 +99,15 @@ module _ (r : Record) (area : List ℕ) (reading : ℕ) (p : passes r area readi
 
   pub entries-after : length (tickCall r area reading .state .device .subscriptions) ≡ length (r .device .subscriptions)
   unfolding tickStep sweepOf
-  entries-after = rw (after, t .timely .early, t .timely .fits) (length-map (r .device .subscriptions) _)
+  entries-after = rw (after, t .timely) (length-map (r .device .subscriptions) _)
 
   pub told : tickOf (r .device) reading .answer ≡ ticks.Closed (maskAt r reading)
   unfolding tickStep
-  told = rw (t .timely .early, t .timely .fits)
+  told = rw (t .timely)
 
   pub moved : tickCall r area reading .state .device .reading ≡ reading
   unfolding tickStep sweepOf
-  moved = rw (after, t .timely .early, t .timely .fits)
+  moved = rw (after, t .timely)
 
   pub ruled : rule (r .device) (asked (ticking reading)) ≡ (tickOf (r .device) reading .device, rules.given (0 ∷ maskAt r reading ∷ []) [])
   unfolding rule rules.tickBy

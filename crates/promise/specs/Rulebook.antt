@@ -77,7 +77,6 @@ closeBy false d n = (d, given (closingNumbers closings.NoConnection) [])
 unfoldable pub tickBy : Ticking → Device → Device → Device × Given
 tickBy (ticks.Closed mask) d e = (e, given (tickingNumbers (tickings.Closed mask)) [])
 tickBy ticks.ClockBack d e = (d, given (tickingNumbers tickings.ClockBack) [])
-tickBy ticks.Overrun d e = (d, given (tickingNumbers tickings.Overrun) [])
 
 -- R49. Taking, by whether the output is too small; it is about the device alone.
 unfoldable pub takeBy : Bool → Device → List ℕ → Device × Given

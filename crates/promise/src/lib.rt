@@ -34,7 +34,7 @@ pub fn heartbeat_sent()
     ensures { λ _. ⌜ HeartbeatSent ⌝ }
 {}
 
-// No tick is refused by 7: a record whose counts could run over is refused by 1.
+// No count comes near the end of 64 bits, so there is no refusal 7: a record whose counts could run over is refused by 1.
 pub fn no_overrun()
     ensures { λ _. ⌜ NoOverrun ⌝ }
 {}

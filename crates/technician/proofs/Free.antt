@@ -6,7 +6,7 @@ use mathlib.Core.List.{List, [], _∷_, _++_, map}
 use lib.Dec.{eqb, ltb, leb}
 use lib.ListN.{length, getD, take, drop, length-map, length-set}
 use borrow.Author.Tests.{not-true}
-use Rattle.laws.specs.Lists.{all, any}
+use Rattle.laws.specs.Lists.{any}
 use Rattle.laws.proofs.Conds.{and-left, and-right, either}
 use Rattle.frame.specs.Limits.{headerEnd, notification, keepAlive}
 use Rattle.frame.specs.Header.{pduType, messageCount}
@@ -17,7 +17,6 @@ use Rattle.frame.specs.declared.Decision.the-variants.{Undecided, Faulty, Sound
 use Rattle.mechanism.specs.Datagram.{resets}
 use Rattle.area.specs.Area.{areaSound, undecidedOf}
 use Rattle.connection.specs.State.{liveAt, isNotOpen}
-use Rattle.connection.specs.Supervision.{fitsStep}
 use Rattle.connection.specs.declared.Connection.{Connection}
 use Rattle.holders.specs.Holders.{sweptHolder}
 use Rattle.device.specs.State.{freshOf, openOf, sweepOf, closeOf, heardAt, sentAt, toldAt, beatingAt}
@@ -79,10 +78,8 @@ module _ (P : List ℕ → Type 0) (swept : (cs : List Connection) (hs : List �
         go : (x : Ticking) → Of (tickedBy x r (tickOf (r .device) reading) area)
         go (ticks.Closed k) =
             either (λ (o : Ticked). P (o .device .holders)) (leb (2 ^ 31) (stepOf reading (r .device .reading))) _ _ p
-            (either (λ (o : Ticked). P (o .device .holders)) (all (fitsStep (stepOf reading (r .device .reading))) (r .device .connections)) _ _
-            (swept _ (r .device .holders) p) p)
+            (swept _ (r .device .holders) p)
         go ticks.ClockBack = p
-        go ticks.Overrun = p
 
     taken-keeps : (r : Record) (out : List ℕ) → P (r .device .holders) → P (takeCall r out .state .device .holders)
     unfolding notifiedOf sentAt toldAt

@@ -19,7 +19,6 @@ use Rattle.area.specs.Area.{areaBytes, areaSound}
 use Rattle.connection.specs.State.{liveAt}
 use Rattle.numbers.specs.Refusal.{clockBack}
 use Rattle.device.specs.Time.{tickStep}
-use Rattle.device.proofs.Keeps.{rules-kept}
 use Rattle.stream.specs.Calls.{deliver, ask}
 use Rattle.endpoint.specs.State.{freshState, recordObeys}
 use Rattle.endpoint.specs.Outcome.{refused}
@@ -30,7 +29,6 @@ use Rattle.promise.specs.Calls.{HostCall, callOf}
 use Rattle.promise.specs.Kept.{Kept}
 use Rattle.promise.specs.Ticks.{stepAt, passes}
 use Rattle.promise.proofs.Kept.{calls-keep}
-use Rattle.promise.proofs.Ticks.{device-obeys}
 use Rattle.technician.specs.Silence.{Watched, stepIn, callsOf, timeIn}
 use Rattle.technician.specs.Lock.{lockBytes, replyBytes, holderIn}
 use Rattle.technician.specs.Technician.{Course, spoken, atLast, sinceThen, thenTick, GoesSilent, Holds, Reaches, Asks, Waits, Closes, Enters, beatIn, keepAlive30s, mostInSeconds, mostInMilliseconds, Exactly, TechnicianLetIn}
@@ -143,7 +141,7 @@ module _ (r : Record) (area : List ℕ) (reading : ℕ) (o : recordObeys r ≡ t
   unfolding passes tickCall tickStep tickedBy
   timely h =
       let e = lt-leb (2 ^ 31) (stepAt r reading) h in
-      rw (o, a, e, rules-kept .fitting (r .device) reading (device-obeys r o) e)
+      rw (o, a, e)
 
   back : 2 ^ 31 ≤ stepAt r reading → tickCall r area reading ≡ refused clockBack r area []
   unfolding tickCall tickStep tickedBy

@@ -59,7 +59,6 @@ module _ (r : Record) (area : List ℕ) (reading : ℕ) where
       go true o false s x e = rw (o, s)
       go true o true s (ticks.Closed m) e = let z : true ≡ false = rw (o, s, e) at p in absurd (true≢false z)
       go true o true s ticks.ClockBack e = rw (o, s, e)
-      go true o true s ticks.Overrun e = rw (o, s, e)
 
 -- the holder at a place once swept
 swept-at : (cs : List Connection) (hs : List ℕ) (at : ℕ) → getD (map (sweptHolder cs) hs) at 0 ≡ sweptHolder cs (getD hs at 0)
@@ -73,9 +72,9 @@ swept-gone : (r : Record) (reading n at : ℕ) → Passing (r .device) reading �
 unfolding tickStep sweepOf sweptHolder holderObeys
 swept-gone r reading n at t s e =
     let cs = map (connectionTicked (stepAt r reading)) (r .device .connections) in
-    let z : liveAt cs n ≡ false = rw (t .early, t .fits) at s in
+    let z : liveAt cs n ≡ false = rw t at s in
     let b : n + 1 - 1 ≡ n = omega arith in
-    rw (t .early, t .fits)
+    rw t
     (swept-at cs (r .device .holders) at ∙ rw (e, b, z, ne-eqb (n + 1) 0 (λ q. omega arith)))
 
 module _ (r : Record) (area : List ℕ) (reading : ℕ) (p : passes r area reading ≡ true) where

@@ -8,7 +8,7 @@ use lib.Dec.{ltb, leb, eqb}
 use lib.ListN.{length, getD, take, drop, set, List·getD-map}
 use lib.Seq.{getD-set-other, length-take-le, take-length, drop-length, drop-append-seam}
 use borrow.Author.Tests.{eq-eqb, ne-eqb, eqb-true, eqb-false, ltb-true, lt-ltb}
-use Rattle.laws.specs.Lists.{all, any}
+use Rattle.laws.specs.Lists.{any}
 use Rattle.laws.proofs.Conds.{either, and-left}
 use Rattle.laws.proofs.Tables.{any-index}
 use Rattle.octets.specs.Zeros.{zeros}
@@ -24,7 +24,7 @@ use Rattle.split.proofs.Splits.{split-none, split-more, split-one, sound-more}
 use Rattle.area.specs.Area.{areaBytes}
 use Rattle.mechanism.specs.Datagram.{resets}
 use Rattle.connection.specs.State.{closed, opened, liveAt, isNotOpen, lowestFree, lowestDue}
-use Rattle.connection.specs.Supervision.{fitsStep, closesAt, connectionTicked}
+use Rattle.connection.specs.Supervision.{closesAt, connectionTicked}
 use Rattle.connection.specs.declared.Connection.{Connection}
 use Rattle.connection.proofs.Keeps.{supervision-kept}
 use Rattle.subscription.specs.State.{lowestWaiting}
@@ -68,7 +68,7 @@ tick-back : (d : Device) (reading n : ℕ) → liveAt (tickOf d reading .device 
 unfolding tickStep sweepOf liveAt
 tick-back d reading n =
     let step = stepOf reading (d .reading) in
-    either P (leb (2 ^ 31) step) _ _ (λ l. l) (either P (all (fitsStep step) (d .connections)) _ _ (λ l. ticked step l) (λ l. l))
+    either P (leb (2 ^ 31) step) _ _ (λ l. l) (λ l. ticked step l)
   where
     P : Ticked → Type 0
     P t = getD (t .device .connections) n closed .live ≡ true → getD (d .connections) n closed .live ≡ true
@@ -352,7 +352,6 @@ module _ (d : Device) (h : Held) (w : Waits d h) (n : ℕ) (bytes : List ℕ) (m
       go : (x : Ticking) → let t = rulebook.tickBy x d (tickOf d reading .device) in Stands (t .0) (only (open? (t .0)) h) n bytes ms
       go (ticks.Closed mask) = still-turn (tickOf d reading .device) (tick-back d reading n)
       go ticks.ClockBack = still-turn d (λ l. l)
-      go ticks.Overrun = still-turn d (λ l. l)
   ask-turn (taking out) =
       let i = lowestWaiting (d .subscriptions) in
       let j = lowestDue (d .connections) in

@@ -26,8 +26,8 @@ pub fn freshness(desk: &mut Desk<'_, '_>) -> Checked<()> {
 }
 
 /// Counts so large that adding the step does not fit 64 bits: such a record
-/// breaks a rule, so the refusal is 1 and never 7.
-pub fn overruns(desk: &mut Desk<'_, '_>) -> Checked<()> {
+/// breaks a rule, so the refusal is 1.
+pub fn beyond_64_bits(desk: &mut Desk<'_, '_>) -> Checked<()> {
     desk.make_busy()?;
     for n in 0..8 {
         for value in [u64::MAX, u64::MAX - 1, u64::MAX - u64::from(HALF)] {

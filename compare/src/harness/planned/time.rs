@@ -1,6 +1,7 @@
 //! Heartbeats at their limits.
 
 use super::HALF;
+use crate::harness::call::Call;
 use crate::harness::desk::Desk;
 use crate::harness::session::Checked;
 use crate::harness::traffic::{keep_alive, message};
@@ -51,6 +52,48 @@ pub fn long_silence(desk: &mut Desk<'_, '_>) -> Checked<()> {
         for _ in 0..31 {
             desk.tick(1)?;
         }
+    }
+    Ok(())
+}
+
+/// The greatest counts that the rules let stand, under the longest steps, and
+/// the next greater ones, which break a rule.
+pub fn greatest_counts(desk: &mut Desk<'_, '_>) -> Checked<()> {
+    let greatest = [(1, 65_535, 65_535_000_u64), (2, u32::MAX, u64::from(u32::MAX))];
+    for (form, value, beat) in greatest {
+        for n in 0..8 {
+            desk.restart(u32::MAX)?;
+            for _ in 0..=n {
+                desk.open()?;
+            }
+            desk.deliver(n, &keep_alive(form, value))?;
+            desk.tick(1)?;
+            for (silence, quiet) in [(3 * beat - 1, 0), (0, beat - 1), (3 * beat - 1, beat - 1)] {
+                count_on(desk, n, silence, quiet)?;
+                count_on(desk, n, silence + 1, quiet)?;
+                count_on(desk, n, silence, quiet + 1)?;
+            }
+            for count in [u64::from(u32::MAX), 1 << 32, (1 << 32) + 1] {
+                count_on(desk, n, count, 0)?;
+                count_on(desk, n, 0, count)?;
+            }
+        }
+    }
+    Ok(())
+}
+
+/// Ticks from the desk's record with these counts of connection n.
+fn count_on(desk: &mut Desk<'_, '_>, n: u8, silence: u64, quiet: u64) -> Checked<()> {
+    let mut record = desk.record;
+    let connection = &mut record.device.connections[usize::from(n)];
+    connection.silence = silence;
+    connection.quiet = quiet;
+    for step in [0, 1, HALF - 2, HALF - 1, HALF, u32::MAX] {
+        desk.session.check(Call::Tick {
+            record,
+            area: desk.area.clone(),
+            reading: record.device.reading.wrapping_add(step),
+        })?;
     }
     Ok(())
 }

@@ -1,4 +1,4 @@
-use Rattle.connection.proofs.Times.{fit-at}
+use Rattle.connection.proofs.Times.{obeys-at}
 use Rattle.connection.specs.Supervision.{connectionTicked}
 use Rattle.laws.proofs.Loops.{Mapping, mapping-none, mapping-from, mapping-all}
 use Prim.Native.Nat.{_-_}
@@ -22,7 +22,7 @@ array-copy-out-c : tie.Need-array-copy-out-c Inv-loop μ-loop
 array-copy-out-c c = search needs
 
 ticked-requires : tie.Need-ticked-requires Inv-loop μ-loop
-ticked-requires c κs = search (fit-at, needs)
+ticked-requires c κs = search (obeys-at, needs)
 
 mul-out : tie.Need-mul-out Inv-loop μ-loop
 mul-out c = search needs

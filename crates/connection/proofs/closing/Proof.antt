@@ -1,6 +1,6 @@
 use Rattle.laws.proofs.Loops.{Masking, masking-none, masking-set, masking-clear, masking-low, masking-all}
 use Rattle.connection.specs.Supervision.{closesAt}
-use Rattle.connection.proofs.Times.{fit-before}
+use Rattle.connection.proofs.Times.{obeys-before}
 use native.Mathlib.Omega.{arith}
 use borrow.Author.Needs.{needs}
 use Rattle.connection.proofs.closing.Statement.{statement}
@@ -25,7 +25,7 @@ array-copy-out-c : tie.Need-array-copy-out-c Inv-loop μ-loop
 array-copy-out-c c = search needs
 
 closes-requires : tie.Need-closes-requires Inv-loop μ-loop
-closes-requires c κs = search (fit-before, needs)
+closes-requires c κs = search (obeys-before, needs)
 
 mul-m : tie.Need-mul-m Inv-loop μ-loop
 mul-m c = omega (arith, masking-low (c .before .before .before .before .loop .inv) (c .before .before .before .loop-test .taken))

@@ -27,12 +27,6 @@ enum-told-3 c = search needs
 refusal-requires-3 : tie.Need-refusal-requires-3
 refusal-requires-3 c κs = search needs
 
-enum-told-4 : tie.Need-enum-told-4
-enum-told-4 c = search needs
-
-refusal-requires-4 : tie.Need-refusal-requires-4
-refusal-requires-4 c κs = search needs
-
 returns : tie.Need-returns
 unfolding numbersOf
 returns c = rw (c .before .before .self .given .1) (c .told .ensures)
@@ -49,10 +43,6 @@ returns-4 : tie.Need-returns-4
 unfolding numbersOf
 returns-4 c = rw (c .before .enum-told3 .given .1) (c .refusal3 .ensures)
 
-returns-5 : tie.Need-returns-5
-unfolding numbersOf
-returns-5 c = rw (c .before .enum-told4 .given .1) (c .refusal4 .ensures)
-
 pub numbers-spec : {M : Type 1} → statement M
 numbers-spec =
     tie.close
@@ -65,10 +55,7 @@ numbers-spec =
     refusal-requires-2
     enum-told-3
     refusal-requires-3
-    enum-told-4
-    refusal-requires-4
     returns
     returns-2
     returns-3
-    returns-4
-    returns-5)
+    returns-4)

@@ -1,4 +1,5 @@
-use Rattle.connection.proofs.Times.{fits-silence, fits-quiet, tick-zero, tick-closed, tick-stays}
+use Rattle.connection.proofs.Times.{tick-zero, tick-closed, tick-stays}
+use Rattle.connection.proofs.Keeps.{silence-fits, quiet-fits}
 use native.Mathlib.Omega.{arith}
 use borrow.Author.Needs.{needs}
 use Rattle.connection.proofs.Connection.ticked.Statement.{statement}
@@ -14,10 +15,10 @@ returns-2 : tie.Need-returns-2
 returns-2 c = search tick-closed
 
 add-self : tie.Need-add-self
-add-self c = omega (arith, fits-silence _ _ (c .before .before .before .before .before .pre))
+add-self c = omega (arith, silence-fits _ _ (c .before .before .before .before .before .pre))
 
 quieter-requires : tie.Need-quieter-requires
-quieter-requires c κs = search (fits-quiet, needs)
+quieter-requires c κs = search (quiet-fits, needs)
 
 returns-3 : tie.Need-returns-3
 returns-3 c = search tick-stays

@@ -1,5 +1,5 @@
 use denote.Ref.{now}
-use Rattle.endpoint.proofs.States.{tick-closed, tick-back, tick-over}
+use Rattle.endpoint.proofs.States.{tick-closed, tick-back}
 use borrow.Author.Needs.{needs}
 use Rattle.endpoint.proofs.Record.pass.Statement.{statement}
 use Rattle.endpoint.proofs.Record.pass.Tie as tie
@@ -22,9 +22,6 @@ held-kept-requires c κs = search needs
 enum-told : tie.Need-enum-told
 enum-told c = search needs
 
-enum-told-2 : tie.Need-enum-told-2
-enum-told-2 c = search needs
-
 same-length : tie.Need-same-length
 same-length c = search needs
 
@@ -40,12 +37,6 @@ returns-2 c =
     let t = c .before .before .tick in
     tick-back (a .self) (now (a .area)) (a .reading) (t .result) (t .ensures) (c .enum-told .given .1)
 
-returns-3 : tie.Need-returns-3
-returns-3 c =
-    let a = c .before .before .before .before .before .before .args in
-    let t = c .before .before .tick in
-    tick-over (a .self) (now (a .area)) (a .reading) (t .result) (t .ensures) (c .enum-told2 .given .1)
-
 pub pass-spec : {M : Type 1} → statement M
 pass-spec =
     tie.close
@@ -56,8 +47,6 @@ pass-spec =
     clear-closed-requires
     held-kept-requires
     enum-told
-    enum-told-2
     same-length
     returns
-    returns-2
-    returns-3)
+    returns-2)

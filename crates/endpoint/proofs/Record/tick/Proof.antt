@@ -1,6 +1,6 @@
 use denote.Ref.{now}
 use Rattle.laws.proofs.Parts.{rest}
-use Rattle.endpoint.proofs.States.{tick-bad, tick-area, tick-passed, sound-long}
+use Rattle.endpoint.proofs.States.{tick-bad, tick-area, tick-passed, sound-long, tested-device}
 use borrow.Author.Needs.{needs}
 use Rattle.endpoint.proofs.Record.tick.Statement.{statement}
 use Rattle.endpoint.proofs.Record.tick.Tie as tie
@@ -38,8 +38,10 @@ pass-requires : tie.Need-pass-requires
 pass-requires c κs =
     let a = c .before .before .before .before .before .before .before .before .before .args in
     let u = c .before .before .before .before .before .before in
-    let v = c .before in
-    sound-long (a .self) _ (u .before .obeys .ensures) (u .if1 .left) (now (a .area)) _ (rest 0 (now (a .area))) _ (v .before .area-sound .ensures) (v .if2 .left)
+    let v = c .before in (
+      sound-long (a .self) _ (u .before .obeys .ensures) (u .if1 .left) (now (a .area)) _ (rest 0 (now (a .area))) _ (v .before .area-sound .ensures) (v .if2 .left),
+      tested-device (a .self) _ (u .before .obeys .ensures) (u .if1 .left),
+    )
 
 same-length-2 : tie.Need-same-length-2
 same-length-2 c = search needs
