@@ -204,7 +204,9 @@ impl Slipping {
             }
             ThreeHIsStillSilence => {
                 for connection in &mut device.connections {
-                    if connection.beat > 0 && connection.beat.checked_mul(3) == Some(connection.silence) {
+                    if connection.beat > 0
+                        && connection.beat.checked_mul(3) == Some(connection.silence)
+                    {
                         connection.silence -= 1;
                     }
                 }

@@ -254,7 +254,9 @@ impl Counts {
         }
         if self.beyond_refused < self.beyond {
             let others = self.beyond - self.beyond_refused;
-            failures.push(format!("tick: {others} sums beyond 64 bits not refused by 1"));
+            failures.push(format!(
+                "tick: {others} sums beyond 64 bits not refused by 1"
+            ));
         }
         failures
     }

@@ -59,7 +59,10 @@ pub fn long_silence(desk: &mut Desk<'_, '_>) -> Checked<()> {
 /// The greatest counts that the rules let stand, under the longest steps, and
 /// the next greater ones, which break a rule.
 pub fn greatest_counts(desk: &mut Desk<'_, '_>) -> Checked<()> {
-    let greatest = [(1, 65_535, 65_535_000_u64), (2, u32::MAX, u64::from(u32::MAX))];
+    let greatest = [
+        (1, 65_535, 65_535_000_u64),
+        (2, u32::MAX, u64::from(u32::MAX)),
+    ];
     for (form, value, beat) in greatest {
         for n in 0..8 {
             desk.restart(u32::MAX)?;
