@@ -7,7 +7,8 @@
 //! PROGRAM KIND COMMANDS ENTRIES MESSAGES` those of one kind of command, to a
 //! record with so many entries in use; of no commands an empty piece. `speed
 //! library read CALL INDEX TIMES` reads a message of 119 entries by one of the
-//! reader's calls.
+//! reader's calls, `speed library tick ENTRIES TIMES` ticks a record with so many
+//! entries in use, a millisecond each time.
 
 use compare::answer::{MESSAGE, MORE};
 use compare::engine::Engine;
@@ -85,6 +86,7 @@ fn main() -> ExitCode {
             table();
             Some(())
         }
+        ["library", "tick", entries, times] => only_tick(entries, times),
         [program, commands, pieces, messages] => only(program, commands, pieces, messages),
         ["library", "read", call, index, times] => only_read(call, index, times),
         [program, kind, commands, entries, messages] => {
@@ -98,6 +100,7 @@ fn main() -> ExitCode {
             eprintln!("usage: speed [library|plain COMMANDS whole|bytes MESSAGES]");
             eprintln!("       speed library|plain lock|get|set|add COMMANDS ENTRIES MESSAGES");
             eprintln!("       speed library read message|entry|part INDEX TIMES");
+            eprintln!("       speed library tick ENTRIES TIMES");
             ExitCode::from(2)
         }
     }
@@ -160,6 +163,26 @@ fn only_read(call: &str, index: &str, times: &str) -> Option<()> {
 
 #[cfg(not(feature = "ours"))]
 fn only_read(_: &str, _: &str, _: &str) -> Option<()> {
+    None
+}
+
+/// Ticks so many times, and measures nothing.
+#[cfg(feature = "ours")]
+fn only_tick(entries: &str, times: &str) -> Option<()> {
+    use compare::ours::Ours;
+    let mut host = prepared(entries.parse().ok()?);
+    let times: u32 = times.parse().ok()?;
+    for reading in 1..=times {
+        let answer = Ours.tick(host.record, &mut host.area, reading);
+        assert_eq!((answer.number, answer.closed), (0, 0));
+        host.record = answer.record;
+    }
+    tell_end(host);
+    Some(())
+}
+
+#[cfg(not(feature = "ours"))]
+fn only_tick(_: &str, _: &str) -> Option<()> {
     None
 }
 

@@ -1,13 +1,15 @@
 -- Opening, closing and ticks, case by case. Assumes nothing.
-use Prim.Native.Nat.{ℕ, _<_, _≤_}
-use mathlib.Core.Path.{_≡_, sym, ap, _∙_}
+use Prim.Native.Nat.{ℕ, _^_, _<_, _≤_}
+use mathlib.Core.Path.{_≡_, refl, sym, ap, _∙_}
 use mathlib.Core.Bool.{Bool, true, false}
 use mathlib.Core.List.{List, map}
 use native.Mathlib.Omega.{arith}
 use borrow.Author.Tests.{le-leb, lt-leb, lt-ltb, le-ltb}
+use lib.Dec.{leb}
 use lib.ListN.{length, getD, set}
 use lib.Seq.{set-out}
 use Rattle.laws.specs.Lists.{all, mask}
+use Rattle.laws.proofs.Conds.{either}
 use Rattle.laws.proofs.Tables.{any-index, getD-any}
 use Rattle.heartbeat.specs.declared.Heartbeat.{Heartbeat}
 use Rattle.connection.specs.Obeys.{connectionObeys}
@@ -105,3 +107,14 @@ module _ (d : Device) (reading s : ℕ) (e : s ≡ stepOf reading (d .reading)) 
   pub tick-done : (m : ℕ) (cs : List Connection) (r : Device) → s < 2147483648 → m ≡ mask (closesAt s) (d .connections) → cs ≡ map (connectionTicked s) (d .connections) → r ≡ sweepOf (advanced d reading cs) → _≡_ {A = Ticked} (record { device = r; answer = ticks.Closed m }) (tickOf d reading)
   unfolding tickStep
   tick-done m cs r h em ec er = rw (← e, lt-leb _ _ h, em, er, ec)
+
+-- a tick that goes back hands back the device as it was
+pub back-same : (d : Device) (reading : ℕ) (k : Ticked) → k ≡ tickOf d reading → k .answer ≡ ticks.ClockBack → k .device ≡ d
+unfolding tickStep
+back-same d reading k q a =
+    ap (λ (t : Ticked). t .device) q
+    ∙ either P (leb (2 ^ 31) (stepOf reading (d .reading))) _ _ (λ e. refl) (λ e. absurd (let z : _≡_ {A = ℕ} 0 1 = cc in omega arith))
+    (sym (ap (λ (t : Ticked). t .answer) q) ∙ a)
+  where
+    P : Ticked → Type 0
+    P t = t .answer ≡ ticks.ClockBack → t .device ≡ d

@@ -22,6 +22,7 @@ use Rattle.device.specs.declared.Opened.{Opened}
 use Rattle.device.specs.declared.Opening.the-variants as opening
 use Rattle.device.specs.declared.Ticked.{Ticked}
 use Rattle.device.specs.declared.Ticking.the-variants as ticking
+use Rattle.device.proofs.Times.{back-same}
 use Rattle.endpoint.specs.State.{stateOf, recordObeys, closedState}
 use Rattle.numbers.specs.Refusal.{badRecord, badArea, noConnection, tableFull, clockBack}
 use Rattle.endpoint.specs.Outcome.{Outcome, outcome, refused}
@@ -85,9 +86,10 @@ module _ (r : Record) (area : List ℕ) (reading : ℕ) (k : Ticked) (q : k ≡ 
   unfolding tickedBy
   tick-closed mask a lives held next x y z = rw (← q, a, y, z, x)
 
-  pub tick-back : k .answer ≡ ticking.ClockBack → refused clockBack r area [] ≡ After
+  -- what a refused tick hands back is the device that it was given
+  pub tick-back : k .answer ≡ ticking.ClockBack → outcome (clockBack ∷ []) (stateOf (k .device) (r .held)) area [] ≡ After
   unfolding tickedBy
-  tick-back a = rw (← q, a)
+  tick-back a = rw (back-same (r .device) reading k q a, ← q, a)
 
 -- b is what the call that tests the record gave
 module _ (r : Record) (b : Bool) (tested : b ≡ recordObeys r) where

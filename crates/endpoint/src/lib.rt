@@ -193,10 +193,10 @@ impl Record {
         let held = self.held;
         let device = self.device;
         let ticked = device.tick(reading);
+        let next = ticked.device;
         let answer = ticked.answer;
         match answer {
             device::Ticking::Closed(mask) => {
-                let next = ticked.device;
                 let open = lives(next);
                 area::clear_closed(area, open);
                 let kept = area::held_kept(open, held);
@@ -209,7 +209,7 @@ impl Record {
                 }
             }
             device::Ticking::ClockBack => Ticked {
-                state: self,
+                state: Record { device: next, held },
                 answer: Ticking::ClockBack,
             },
         }

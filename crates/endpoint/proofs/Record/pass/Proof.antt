@@ -29,12 +29,12 @@ returns : tie.Need-returns
 returns c =
     let a = c .before .before .before .before .before .before .before .before .before .before .before .before .before .before .args in
     let t = c .before .before .before .before .before .before .before .before .before .before .tick in
-    tick-closed (a .self) (now (a .area)) (a .reading) (t .result) (t .ensures) _ (c .before .before .before .before .before .before .before .before .answer .given .1) _ _ _ (c .before .before .before .before .before .lives .ensures) (c .held-kept .ensures) (c .before .before .before .clear-closed .ensures)
+    tick-closed (a .self) (now (a .area)) (a .reading) (t .result) (t .ensures) _ (c .before .before .before .before .before .before .before .answer .given .1) _ _ _ (c .before .before .before .before .before .lives .ensures) (c .held-kept .ensures) (c .before .before .before .clear-closed .ensures)
 
 returns-2 : tie.Need-returns-2
 returns-2 c =
-    let a = c .before .before .before .before .before .before .args in
-    let t = c .before .before .tick in
+    let a = c .before .before .before .before .before .before .before .args in
+    let t = c .before .before .before .tick in
     tick-back (a .self) (now (a .area)) (a .reading) (t .result) (t .ensures) (c .enum-told .given .1)
 
 pub pass-spec : {M : Type 1} → statement M
