@@ -91,6 +91,18 @@ impl<'s, 'e> Desk<'s, 'e> {
         self.advance(call)
     }
 
+    /// Ticks another record, from its own reading by each of these steps; the desk's record stays.
+    pub fn tick_from(&mut self, record: Record, steps: &[u32]) -> Checked<()> {
+        for step in steps {
+            self.session.check(Call::Tick {
+                record,
+                area: self.area.clone(),
+                reading: record.device.reading.wrapping_add(*step),
+            })?;
+        }
+        Ok(())
+    }
+
     pub fn take(&mut self) -> Checked<Outcome> {
         let call = self.taking();
         self.advance(call)

@@ -129,7 +129,7 @@ at-keeps f d n r l h =
     h
 
 -- a connection that obeys stands at any number
-at-obeys : (d : Device) (n : ℕ) → deviceObeys d ≡ true → connectionObeys (getD (d .connections) n closed) ≡ true
+pub at-obeys : (d : Device) (n : ℕ) → deviceObeys d ≡ true → connectionObeys (getD (d .connections) n closed) ≡ true
 at-obeys d n h = all-getD connectionObeys (d .connections) n closed (obeys-are d h .connections) (supervision-kept .shut)
 
 hearing : (d : Device) (n : ℕ) → deviceObeys d ≡ true → deviceObeys (heardAt d n) ≡ true

@@ -13,7 +13,8 @@ use Rattle.laws.proofs.Conds.{and-left}
 use Rattle.octets.specs.Zeros.{zeros}
 use Rattle.area.specs.Area.{areaBytes, areaSound, partCleared, closedCleared, heldKept}
 use Rattle.area.proofs.Lies.{area-long}
-use Rattle.connection.specs.State.{liveAt}
+use Rattle.connection.specs.State.{closed, liveAt}
+use Rattle.connection.specs.Obeys.{connectionObeys}
 use Rattle.connection.specs.declared.Connection.{Connection}
 use Rattle.device.specs.State.{openOf, livesIn}
 use Rattle.device.specs.Obeys.{deviceObeys}
@@ -23,6 +24,7 @@ use Rattle.device.specs.declared.Opening.the-variants as opening
 use Rattle.device.specs.declared.Ticked.{Ticked}
 use Rattle.device.specs.declared.Ticking.the-variants as ticking
 use Rattle.device.proofs.Times.{back-same}
+use Rattle.device.proofs.Keeps.{at-obeys}
 use Rattle.endpoint.specs.State.{stateOf, recordObeys, closedState}
 use Rattle.numbers.specs.Refusal.{badRecord, badArea, noConnection, tableFull, clockBack}
 use Rattle.endpoint.specs.Outcome.{Outcome, outcome, refused}
@@ -59,6 +61,14 @@ filling-all {A} {B} {f} {n} {i} {l} {first} m h =
     let a : length l ≤ i = omega (arith, m .sizes) in
     let b : length first ≤ i = omega (arith, m .sizes) in
     m .is ∙ rw (take-all i l a, drop-of-length-le first b, append-nil)
+
+-- a record that obeys has a device that does, and a connection that does at any number
+pub device-obeys : (r : Record) → recordObeys r ≡ true → deviceObeys (r .device) ≡ true
+unfolding recordObeys
+device-obeys r o = and-left (deviceObeys (r .device)) _ o
+
+pub connection-obeys : (r : Record) (n : ℕ) → recordObeys r ≡ true → connectionObeys (getD (r .device .connections) n closed) ≡ true
+connection-obeys r n o = at-obeys (r .device) n (device-obeys r o)
 
 -- an open connection is one of the n
 pub live-low : (cs : List Connection) (i n : ℕ) → liveAt cs i ≡ true → length cs ≡ n → i < n
@@ -111,8 +121,7 @@ module _ (r : Record) (b : Bool) (tested : b ≡ recordObeys r) where
   close-bad t area n = rw (← tested, not-true b t)
 
   pub tested-device : not b ≡ false → deviceObeys (r .device) ≡ true
-  unfolding recordObeys
-  tested-device t = and-left (deviceObeys (r .device)) _ (sym tested ∙ not-false b t)
+  tested-device t = device-obeys r (sym tested ∙ not-false b t)
 
   pub tick-bad : not b ≡ true → (area : List ℕ) (reading : ℕ) → refused badRecord r area [] ≡ tickCall r area reading
   unfolding tickCall

@@ -1,13 +1,11 @@
 -- No count runs over, and no tick is refused by 7. Assumes nothing.
-use Prim.Native.Nat.{ℕ, zero, suc, _+_, _^_, _<_, _≤_}
+use Prim.Native.Nat.{ℕ, _+_, _^_, _<_, _≤_}
 use mathlib.Core.Path.{_≡_, refl}
 use mathlib.Core.Bool.{Bool, true, false}
-use mathlib.Core.List.{List, [], _∷_}
+use mathlib.Core.List.{List, []}
 use native.Mathlib.Omega.{arith}
 use lib.Dec.{leb}
 use lib.ListN.{getD}
-use Rattle.laws.specs.Lists.{all}
-use Rattle.laws.proofs.Conds.{and-left, and-right}
 use Rattle.numbers.specs.Refusal.{notRefused, badRecord}
 use Rattle.octets.specs.Zeros.{zeros, allZero}
 use Rattle.heartbeat.specs.Beat.{formOf, beatOf}
@@ -24,27 +22,15 @@ use Rattle.mechanism.specs.Obeys.{isAddressTaken, mechanismObeys}
 use Rattle.device.specs.State.{freshOf, livesIn, openOf, sweepOf, beatingAt}
 use Rattle.device.specs.Obeys.{deviceObeys}
 use Rattle.device.specs.Time.{tickStep}
-use Rattle.device.proofs.Keeps.{obeys-are}
 use Rattle.endpoint.specs.State.{recordObeys}
 use Rattle.endpoint.specs.Outcome.{refused}
 use Rattle.endpoint.specs.Calls.{tickedBy, tickCall}
 use Rattle.endpoint.specs.declared.Record.{Record}
+use Rattle.endpoint.proofs.States.{connection-obeys}
 use Rattle.promise.specs.Ticks.{stepAt}
 use Rattle.promise.specs.Overrun.{silenceWith, quietWith, ticksBy, silentFor, longSilence, longQuiet, Comes, NoOverrun}
-use Rattle.promise.proofs.Ticks.{device-obeys}
 
 -- ---- the counts of a record that obeys
--- past the list's end stands what obeys too
-all-within : {A : Type 0} (p : A → Bool) (d : A) → p d ≡ true → (l : List A) (n : ℕ) → all p l ≡ true → p (getD l n d) ≡ true
-all-within p d h [] n e = h
-all-within p d h (x ∷ l) zero e = and-left (p x) (all p l) e
-all-within p d h (x ∷ l) (suc n) e = all-within p d h l n (and-right (p x) (all p l) e)
-
-connection-obeys : (r : Record) (n : ℕ) → recordObeys r ≡ true → connectionObeys (getD (r .device .connections) n closed) ≡ true
-connection-obeys r n o =
-    all-within connectionObeys closed (supervision-kept .shut) (r .device .connections) n
-    (obeys-are (r .device) (device-obeys r o) .connections)
-
 bounds : (r : Record) (n step : ℕ) → recordObeys r ≡ true → step < 2 ^ 31
     → (getD (r .device .connections) n closed .silence + step ≤ greatestSilence) × (getD (r .device .connections) n closed .quiet + step ≤ greatestQuiet)
 bounds r n step o b = supervision-kept .fitting step (getD (r .device .connections) n closed) b (connection-obeys r n o)

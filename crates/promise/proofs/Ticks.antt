@@ -9,7 +9,6 @@ use lib.Dec.{leb}
 use lib.ListN.{length, getD, length-map, List·getD-map}
 use borrow.Author.Tests.{eq-eqb}
 use Rattle.laws.specs.Lists.{mask}
-use Rattle.laws.proofs.Conds.{and-left}
 use Rattle.area.specs.Area.{areaSound, heldKept}
 use Rattle.connection.specs.State.{closed}
 use Rattle.connection.specs.Supervision.{closesAt, connectionTicked}
@@ -24,6 +23,7 @@ use Rattle.endpoint.specs.State.{recordObeys}
 use Rattle.endpoint.specs.Outcome.{Outcome}
 use Rattle.endpoint.specs.Calls.{tickedBy, tickCall}
 use Rattle.endpoint.specs.declared.Record.{Record}
+use Rattle.endpoint.proofs.States.{device-obeys}
 use Rattle.promise.specs.Rulebook as rules
 use Rattle.promise.specs.Rulebook.{ticking, rule}
 use Rattle.promise.specs.Ticks.{stepAt, passes}
@@ -39,10 +39,6 @@ pub record Ticks (r : Record) (area : List ℕ) (reading : ℕ) : Type 0 where
   pub obeys : deviceObeys (r .device) ≡ true
   pub timely : Passing (r .device) reading
   pub given : tickCall r area reading ≡ tickedBy (ticks.Closed (maskAt r reading)) r (tickOf (r .device) reading) area
-
-pub device-obeys : (r : Record) → recordObeys r ≡ true → deviceObeys (r .device) ≡ true
-unfolding recordObeys
-device-obeys r o = and-left (deviceObeys (r .device)) _ o
 
 pub passed : (r : Record) (area : List ℕ) (reading : ℕ) → passes r area reading ≡ true → Ticks r area reading
 unfolding passes tickCall tickStep tickedBy

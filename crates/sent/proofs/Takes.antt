@@ -40,7 +40,6 @@ use Rattle.connection.specs.Supervision.{heartbeatKept}
 use Rattle.connection.specs.Kept.{fitsForm}
 use Rattle.connection.specs.declared.Connection.{Connection}
 use Rattle.connection.proofs.Times.{obeys-bound}
-use Rattle.connection.proofs.Keeps.{supervision-kept}
 use Rattle.subscription.specs.State.{entryCount, free, lowestWaiting}
 use Rattle.subscription.specs.Obeys.{isFree, isSound, entryObeys}
 use Rattle.subscription.specs.declared.Subscription.{Subscription}
@@ -48,15 +47,13 @@ use Rattle.subscription.proofs.Keeps.{entries-kept}
 use Rattle.objects.specs.Methods.{isMute, firstMute, lastMute, changeEvent}
 use Rattle.replies.specs.Bytes.{leastOutput, subscriberBytes, changeBytes, notificationEntry, notificationBytes, keepAliveBytes}
 use Rattle.replies.proofs.Puts.{length-notification}
-use Rattle.area.specs.Area.{heldObeys}
-use Rattle.device.specs.State.{livesIn}
-use Rattle.device.specs.Obeys.{deviceObeys}
 use Rattle.device.proofs.Keeps.{obeys-are}
 use Rattle.taking.specs.Dispatch.{subscriptionAt, notificationAt, notifying, reminding, takenBy}
 use Rattle.endpoint.specs.State.{recordObeys}
 use Rattle.endpoint.specs.Outcome.{Outcome, refused}
 use Rattle.endpoint.specs.Take.{withDispatch, takeCall}
 use Rattle.endpoint.specs.declared.Record.{Record}
+use Rattle.endpoint.proofs.States.{device-obeys, connection-obeys}
 use Rattle.sent.specs.Sent.{levelOf, indexOf, BeatRead, NotificationRead, waitingEntry, waitingValue}
 
 -- ---- keep-alives
@@ -100,14 +97,6 @@ kept-fits c o = go (eqb (c .form) secondsForm) refl
         let s = obeys-bound c o .seconds (eqb-true (c .form) secondsForm e) in
         le-leb (c .beat / 1000) greatestSeconds (omega arith)
     go false e = le-leb (c .beat) greatestMilliseconds (obeys-bound c o .beat)
-
-record-device : (r : Record) → recordObeys r ≡ true → deviceObeys (r .device) ≡ true
-unfolding recordObeys
-record-device r o = and-left (deviceObeys (r .device)) (heldObeys (livesIn (r .device)) (r .held)) o
-
-connection-keeps : (r : Record) (n : ℕ) → recordObeys r ≡ true → connectionObeys (getD (r .device .connections) n closed) ≡ true
-connection-keeps r n o =
-    all-getD connectionObeys (r .device .connections) n closed (obeys-are (r .device) (record-device r o) .connections) (supervision-kept .shut)
 
 -- ---- notifications
 high : (v : ℕ) → v < 4294967296 → v / 16777216 % 256 * 256 + v / 65536 % 256 ≡ v / 65536
@@ -205,7 +194,7 @@ entry-told cs e o w = go (or-cases (isFree e) (isSound cs e) o)
 entry-keeps : (r : Record) (i : ℕ) → recordObeys r ≡ true → entryObeys (r .device .connections) (subscriptionAt (r .device) i) ≡ true
 entry-keeps r i o =
     let d = r .device in
-    all-getD (entryObeys (d .connections)) (d .subscriptions) i free (obeys-are d (record-device r o) .entries) (entries-kept .freed (d .connections))
+    all-getD (entryObeys (d .connections)) (d .subscriptions) i free (obeys-are d (device-obeys r o) .entries) (entries-kept .freed (d .connections))
 
 -- ---- the ways of a take
 module _ (r : Record) (out : List ℕ) where
@@ -238,7 +227,7 @@ module _ (r : Record) (out : List ℕ) where
       let m = keepAliveBytes h in
       let en : k ≡ n = ap (λ (x : List ℕ). getD x 2 0) e in
       let el : length m ≡ l = ap (λ (x : List ℕ). getD x 3 0) e in
-      rw (← en, ← el) (beat-read h (drop (length m) out) (kept-fits (getD (r .device .connections) k closed) (connection-keeps r k q)))
+      rw (← en, ← el) (beat-read h (drop (length m) out) (kept-fits (getD (r .device .connections) k closed) (connection-obeys r k q)))
 
   notified-by : (n l : ℕ) (o short waits due : Bool) → recordObeys r ≡ o → Words (waitingEntry r) → By o short waits due .answer ≡ takingNumbers (Notification n l)
       → (n ≡ waitingEntry r .connection) × NotificationRead (By o short waits due .output) l (waitingEntry r) (waitingValue r)

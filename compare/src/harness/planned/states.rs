@@ -36,13 +36,7 @@ pub fn beyond_64_bits(desk: &mut Desk<'_, '_>) -> Checked<()> {
             let mut quiet = desk.record;
             quiet.device.connections[n].quiet = value;
             for record in [silent, quiet] {
-                for step in [0, 1, 2, HALF - 1, HALF, u32::MAX] {
-                    desk.session.check(Call::Tick {
-                        record,
-                        area: desk.area.clone(),
-                        reading: record.device.reading.wrapping_add(step),
-                    })?;
-                }
+                desk.tick_from(record, &[0, 1, 2, HALF - 1, HALF, u32::MAX])?;
             }
         }
     }

@@ -1,7 +1,6 @@
 //! Heartbeats at their limits.
 
 use super::HALF;
-use crate::harness::call::Call;
 use crate::harness::desk::Desk;
 use crate::harness::session::Checked;
 use crate::harness::traffic::{keep_alive, message};
@@ -91,12 +90,5 @@ fn count_on(desk: &mut Desk<'_, '_>, n: u8, silence: u64, quiet: u64) -> Checked
     let connection = &mut record.device.connections[usize::from(n)];
     connection.silence = silence;
     connection.quiet = quiet;
-    for step in [0, 1, HALF - 2, HALF - 1, HALF, u32::MAX] {
-        desk.session.check(Call::Tick {
-            record,
-            area: desk.area.clone(),
-            reading: record.device.reading.wrapping_add(step),
-        })?;
-    }
-    Ok(())
+    desk.tick_from(record, &[0, 1, HALF - 2, HALF - 1, HALF, u32::MAX])
 }
