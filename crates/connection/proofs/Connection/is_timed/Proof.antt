@@ -9,7 +9,7 @@ form-obeys-requires c κs = search needs
 
 returns : tie.Need-returns
 unfolding isTimed
-returns c = let s = c .before .before .before .before .before .before .before .args .self in cc (third (s .silence) (s .beat))
+returns c = rw (third, c .before .before .before .before .before .before .form-obeys .ensures)
 
 pub is-timed-spec : {M : Type 1} → statement M
 is-timed-spec = tie.close (tie.spec form-obeys-requires returns)
