@@ -20,28 +20,12 @@ use Rattle.connection.specs.declared.Connection.{Connection}
 use Rattle.connection.proofs.Times.{obeys-bound}
 
 -- ---- the rules by name
-record Timed (c : Connection) : Type 0 where
-  live : c .live ≡ true
-  nz : eqb (c .beat) 0 ≡ false
-  early : c .silence < 3 * c .beat
-  quiet : c .quiet < c .beat
-  due : not (c .due) || eqb (c .quiet) 0 ≡ true
-  form : formObeys c ≡ true
-
 record Still (c : Connection) : Type 0 where
   beat : c .beat ≡ 0
   silence : c .silence ≡ 0
   quiet : c .quiet ≡ 0
   form : c .form ≡ 0
   due : c .due ≡ false
-
-timed-obeys : (c : Connection) → Timed c → connectionObeys c ≡ true
-unfolding connectionObeys isTimed
-timed-obeys c t =
-    or-right (isClosed c) (c .live && (isIdle c || isTimed c))
-    (and-both _ _ (t .live)
-    (or-right (isIdle c) (isTimed c)
-    (and-both _ _ (and-both _ _ (and-both _ _ (and-both _ _ (ap not (t .nz)) (lt-ltb _ _ (t .early))) (lt-ltb _ _ (t .quiet))) (t .due)) (t .form))))
 
 still-obeys : (c : Connection) → Still c → connectionObeys c ≡ true
 unfolding connectionObeys isClosed isIdle
@@ -85,6 +69,53 @@ idle-still c h =
       due = not-true (c .due) (and-right (eqb (c .beat) 0 && eqb (c .silence) 0 && eqb (c .quiet) 0 && eqb (c .form) 0) _ h);
     }
 
+-- a connection that obeys counts nothing, or is open and supervised
+obeys-ways : (c : Connection) → connectionObeys c ≡ true → Still c ⊎ ((c .live ≡ true) × (isTimed c ≡ true))
+unfolding connectionObeys
+obeys-ways c h =
+    ⊎-elim (λ k. inl (closed-still c k))
+    (λ k. ⊎-elim (λ i. inl (idle-still c i)) (λ t. inr (and-left (c .live) _ k, t)) (or-cases (isIdle c) (isTimed c) (and-right (c .live) _ k)))
+    (or-cases (isClosed c) _ h)
+
+-- ---- what a tick asks; the limit of silence is the rule's own, so that a rule with a wider one is refused by the number
+pub fitting : (step : ℕ) (c : Connection) → step < 2 ^ 31 → connectionObeys c ≡ true → (c .silence + step ≤ greatestSilence) × (c .quiet + step ≤ greatestQuiet)
+unfolding isTimed
+fitting step c b h =
+    ⊎-elim
+    (λ (s : Still c). (omega (arith, s .silence), omega (arith, s .quiet)))
+    (λ (t : (c .live ≡ true) × (isTimed c ≡ true)).
+    let top = obeys-bound c h .beat in
+    let t3 = and-left _ (not (c .due) || eqb (c .quiet) 0) (and-left _ (formObeys c) (t .1)) in
+    let t2 = and-left _ (ltb (c .quiet) (c .beat)) t3 in
+    let early = ltb-true (c .silence) _ (and-right (not (eqb (c .beat) 0)) _ t2) in
+    let quiet : ltb (c .quiet) (c .beat) ≡ true = rw t2 at t3 in
+    (omega (arith, early), omega (arith, ltb-true (c .quiet) (c .beat) quiet)))
+    (obeys-ways c h)
+
+-- what the code's sums ask for
+pub silence-fits : (step : ℕ) (c : Connection) → (connectionObeys c ≡ true) × (step < 2 ^ 31) → c .silence + step ≤ greatestSilence
+silence-fits step c p = fitting step c (p .1) (p .0) .0
+
+pub quiet-fits : (step : ℕ) (c : Connection) → (connectionObeys c ≡ true) × (step < 2 ^ 31) → c .quiet + step ≤ greatestQuiet
+quiet-fits step c p = fitting step c (p .1) (p .0) .1
+
+-- ---- the rules of a supervised connection
+record Timed (c : Connection) : Type 0 where
+  live : c .live ≡ true
+  nz : eqb (c .beat) 0 ≡ false
+  early : c .silence < 3 * c .beat
+  quiet : c .quiet < c .beat
+  due : not (c .due) || eqb (c .quiet) 0 ≡ true
+  form : formObeys c ≡ true
+
+timed-obeys : (c : Connection) → Timed c → connectionObeys c ≡ true
+unfolding connectionObeys isTimed
+timed-obeys c t =
+    or-right (isClosed c) (c .live && (isIdle c || isTimed c))
+    (and-both _ _ (t .live)
+    (or-right (isIdle c) (isTimed c)
+    (and-both _ _ (and-both _ _ (and-both _ _ (and-both _ _ (ap not (t .nz)) (lt-ltb _ _ (t .early))) (lt-ltb _ _ (t .quiet))) (t .due)) (t .form))))
+
 timed-are : (c : Connection) → c .live ≡ true → isTimed c ≡ true → Timed c
 unfolding isTimed
 timed-are c l t =
@@ -100,13 +131,8 @@ timed-are c l t =
       form = and-right (not (eqb (c .beat) 0) && ltb (c .silence) (3 * c .beat) && ltb (c .quiet) (c .beat) && (not (c .due) || eqb (c .quiet) 0)) _ t;
     }
 
--- a connection that obeys is still or timed
 obeys-view : (c : Connection) → connectionObeys c ≡ true → Still c ⊎ Timed c
-unfolding connectionObeys
-obeys-view c h =
-    ⊎-elim (λ k. inl (closed-still c k))
-    (λ k. ⊎-elim (λ i. inl (idle-still c i)) (λ t. inr (timed-are c (and-left (c .live) _ k) t)) (or-cases (isIdle c) (isTimed c) (and-right (c .live) _ k)))
-    (or-cases (isClosed c) _ h)
+obeys-view c h = ⊎-elim inl (λ t. inr (timed-are c (t .0) (t .1))) (obeys-ways c h)
 
 -- ---- a tick
 shut : connectionObeys closed ≡ true
@@ -191,23 +217,7 @@ telling (InSeconds s) c z =
     rw (z, e)
 telling (InMilliseconds m) c z = rw z
 
--- ---- what a tick asks and leaves
-pub fitting : (step : ℕ) (c : Connection) → step < 2 ^ 31 → connectionObeys c ≡ true → (c .silence + step ≤ greatestSilence) × (c .quiet + step ≤ greatestQuiet)
-fitting step c b h =
-    ⊎-elim
-    (λ (s : Still c). (omega (arith, s .silence), omega (arith, s .quiet)))
-    (λ (t : Timed c).
-    let top = obeys-bound c h .beat in
-    (omega (arith, t .early), omega (arith, t .quiet)))
-    (obeys-view c h)
-
--- what the code's sums ask for
-pub silence-fits : (step : ℕ) (c : Connection) → (connectionObeys c ≡ true) × (step < 2 ^ 31) → c .silence + step ≤ greatestSilence
-silence-fits step c p = fitting step c (p .1) (p .0) .0
-
-pub quiet-fits : (step : ℕ) (c : Connection) → (connectionObeys c ≡ true) × (step < 2 ^ 31) → c .quiet + step ≤ greatestQuiet
-quiet-fits step c p = fitting step c (p .1) (p .0) .1
-
+-- ---- what a tick leaves
 leaving : (step : ℕ) (c : Connection) → connectionTicked step c .live ≡ (c .live && not (closesAt step c))
 unfolding connectionTicked closesAt quietAfter
 leaving step c = go (eqb (c .beat) 0) refl (leb (3 * c .beat) (c .silence + step)) refl (c .due) refl (leb (c .beat) (c .quiet + step)) refl (c .live) refl

@@ -21,7 +21,7 @@ quieter-requires : tie.Need-quieter-requires
 quieter-requires c κs = search (quiet-fits, needs)
 
 returns-3 : tie.Need-returns-3
-returns-3 c = search tick-stays
+returns-3 c = tick-stays _ _ (c .before .before .before .before .if1 .left) (c .before .before .before .closes .ensures) (c .before .before .if2 .left) _ (c .quieter .ensures)
 
 pub ticked-spec : {M : Type 1} → statement M
 ticked-spec =
