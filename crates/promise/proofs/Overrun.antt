@@ -28,7 +28,7 @@ use Rattle.endpoint.specs.Calls.{tickedBy, tickCall}
 use Rattle.endpoint.specs.declared.Record.{Record}
 use Rattle.endpoint.proofs.States.{connection-obeys}
 use Rattle.promise.specs.Ticks.{stepAt}
-use Rattle.promise.specs.Overrun.{silenceWith, quietWith, ticksBy, silentFor, longSilence, longQuiet, Comes, NoOverrun}
+use Rattle.promise.specs.Overrun.{silenceWith, quietWith, ticksBy, silentFor, NoOverrun}
 
 -- ---- the counts of a record that obeys
 bounds : (r : Record) (n step : ℕ) → recordObeys r ≡ true → step < 2 ^ 31
@@ -61,20 +61,16 @@ module _ (r : Record) (area : List ℕ) (reading : ℕ) where
       go true o true s true k = let z : _≡_ {A = ℕ} 6 7 = rw (o, s, k) at e in omega arith
       go true o true s false k = let z : _≡_ {A = ℕ} 0 7 = rw (o, s, k) at e in omega arith
 
--- ---- the greatest are reached, by computation
-comes : Comes (silentFor longSilence) 2147483643 (silenceWith (silentFor longSilence) 2147483643 0) greatestSilence
-    × Comes (silentFor longQuiet) 2147483645 (quietWith (silentFor longQuiet) 2147483645 0) greatestQuiet
-unfolding silentFor ticksBy freshOf openOf isNotOpen beatingAt liveAt beatingOf sentOf heardOf setBeat formOf beatOf tickStep sweepOf sweptOf sweptHolder connectionTicked closesAt quietAfter livesIn recordObeys deviceObeys heldObeys countObeys connectionObeys isClosed isIdle isTimed formObeys entryObeys isFree isSound isTwin apart isMuteValue holderObeys mechanismObeys isAddressTaken zeros allZero
-comes = (record { obeys = refl; timely = omega arith; sum = refl }, record { obeys = refl; timely = omega arith; sum = refl })
-
+-- the greatest are reached, by computation
 pub no-overrun : NoOverrun
+unfolding silentFor ticksBy freshOf openOf isNotOpen beatingAt liveAt beatingOf sentOf heardOf setBeat formOf beatOf tickStep sweepOf sweptOf sweptHolder connectionTicked closesAt quietAfter livesIn recordObeys deviceObeys heldObeys countObeys connectionObeys isClosed isIdle isTimed formObeys entryObeys isFree isSound isTwin apart isMuteValue holderObeys mechanismObeys isAddressTaken zeros allZero
 no-overrun =
     record {
       silence = λ r reading n o b. bounds r n (stepAt r reading) o b .0;
       quiet = λ r reading n o b. bounds r n (stepAt r reading) o b .1;
       fit = (omega arith, omega arith);
-      silenceComes = comes .0;
-      quietComes = comes .1;
+      silenceComes = record { obeys = refl; timely = omega arith; sum = refl };
+      quietComes = record { obeys = refl; timely = omega arith; sum = refl };
       silenceOver = silence-over;
       quietOver = quiet-over;
       never = never;
