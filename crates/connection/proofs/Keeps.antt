@@ -17,7 +17,7 @@ use Rattle.connection.specs.Supervision.{greatestSilence, greatestQuiet,
 use Rattle.connection.specs.Kept.{fitsForm, SupervisionKept}
 use Rattle.connection.specs.Setters.{counted, supervised}
 use Rattle.connection.specs.declared.Connection.{Connection}
-use Rattle.connection.proofs.Times.{obeys-bound}
+use Rattle.connection.proofs.Times.{third, obeys-bound}
 
 -- ---- the rules by name
 record Still (c : Connection) : Type 0 where
@@ -77,7 +77,7 @@ obeys-ways c h =
     (λ k. ⊎-elim (λ i. inl (idle-still c i)) (λ t. inr (and-left (c .live) _ k, t)) (or-cases (isIdle c) (isTimed c) (and-right (c .live) _ k)))
     (or-cases (isClosed c) _ h)
 
--- ---- what a tick asks; the limit of silence is the rule's own, so that a rule with a wider one is refused by the number
+-- ---- what a tick asks; the limits are the rules' own, so that a rule with a wider one is refused by the numbers
 pub fitting : (step : ℕ) (c : Connection) → step < 2 ^ 31 → connectionObeys c ≡ true → (c .silence + step ≤ greatestSilence) × (c .quiet + step ≤ greatestQuiet)
 unfolding isTimed
 fitting step c b h =
@@ -85,11 +85,11 @@ fitting step c b h =
     (λ (s : Still c). (omega (arith, s .silence), omega (arith, s .quiet)))
     (λ (t : (c .live ≡ true) × (isTimed c ≡ true)).
     let top = obeys-bound c h .beat in
-    let t3 = and-left _ (not (c .due) || eqb (c .quiet) 0) (and-left _ (formObeys c) (t .1)) in
-    let t2 = and-left _ (ltb (c .quiet) (c .beat)) t3 in
-    let early = ltb-true (c .silence) _ (and-right (not (eqb (c .beat) 0)) _ t2) in
-    let quiet : ltb (c .quiet) (c .beat) ≡ true = rw t2 at t3 in
-    (omega (arith, early), omega (arith, ltb-true (c .quiet) (c .beat) quiet)))
+    let beats = not (eqb (c .beat) 0) in
+    let t3 = and-left (beats && _ && _) _ (and-left (beats && _ && _ && _) _ (t .1)) in
+    let early = ltb-true (c .silence) _ (and-right beats _ (and-left (beats && _) _ t3)) in
+    let quiet = ltb-true (c .quiet) _ (and-right (beats && _) _ t3) in
+    (omega (arith, early), omega (arith, quiet)))
     (obeys-ways c h)
 
 -- what the code's sums ask for
@@ -119,18 +119,26 @@ timed-obeys c t =
 timed-are : (c : Connection) → c .live ≡ true → isTimed c ≡ true → Timed c
 unfolding isTimed
 timed-are c l t =
-    let t4 = and-left _ (formObeys c) t in
-    let t3 = and-left _ (not (c .due) || eqb (c .quiet) 0) t4 in
-    let t2 = and-left _ (ltb (c .quiet) (c .beat)) t3 in
+    let beats = not (eqb (c .beat) 0) in
+    let t4 = and-left (beats && _ && _ && _) _ t in
+    let t3 = and-left (beats && _ && _) _ t4 in
+    let t2 = and-left (beats && _) _ t3 in
     record {
       live = l;
-      nz = not-true (eqb (c .beat) 0) (and-left _ (ltb (c .silence) (3 * c .beat)) t2);
-      early = ltb-true _ _ (and-right (not (eqb (c .beat) 0)) (ltb (c .silence) (3 * c .beat)) t2);
-      quiet = ltb-true _ _ (and-right (not (eqb (c .beat) 0) && ltb (c .silence) (3 * c .beat)) (ltb (c .quiet) (c .beat)) t3);
-      due = and-right (not (eqb (c .beat) 0) && ltb (c .silence) (3 * c .beat) && ltb (c .quiet) (c .beat)) _ t4;
-      form = and-right (not (eqb (c .beat) 0) && ltb (c .silence) (3 * c .beat) && ltb (c .quiet) (c .beat) && (not (c .due) || eqb (c .quiet) 0)) _ t;
+      nz = not-true (eqb (c .beat) 0) (and-left beats _ t2);
+      early = ltb-true _ _ (and-right beats _ t2);
+      quiet = ltb-true _ _ (and-right (beats && _) _ t3);
+      due = and-right (beats && _ && _) _ t4;
+      form = and-right (beats && _ && _ && _) _ t;
     }
 
+-- the rules of a supervised connection, as the code tests them
+pub timed-tested : (c : Connection) (form : Bool) → form ≡ formObeys c
+    → (not (eqb (c .beat) 0) && ltb (c .silence / 3) (c .beat) && ltb (c .quiet) (c .beat) && (not (c .due) || eqb (c .quiet) 0) && form) ≡ isTimed c
+unfolding isTimed
+timed-tested c form e = rw (third (c .silence) (c .beat), e)
+
+-- a connection that obeys is still or timed
 obeys-view : (c : Connection) → connectionObeys c ≡ true → Still c ⊎ Timed c
 obeys-view c h = ⊎-elim inl (λ t. inr (timed-are c (t .0) (t .1))) (obeys-ways c h)
 

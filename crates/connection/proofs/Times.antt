@@ -169,7 +169,7 @@ obeys-bound c h =
         (and-left _ (eqb (c .silence) 0) (and-left _ (eqb (c .quiet) 0) (and-left _ (eqb (c .form) 0) (and-left _ (not (c .due)) k)))))
 
     timed : isTimed c ≡ true → Bounded c
-    timed k = form-bound c (and-right (not (eqb (c .beat) 0) && _ && ltb (c .quiet) (c .beat) && (not (c .due) || eqb (c .quiet) 0)) _ k)
+    timed k = form-bound c (and-right (not (eqb (c .beat) 0) && _ && _ && _) _ k)
 
 pub beat-fits : (c : Connection) → connectionObeys c ≡ true → c .beat ≤ 4294967295
 beat-fits c h = obeys-bound c h .beat

@@ -61,7 +61,7 @@ module _ (r : Record) (area : List ℕ) (reading : ℕ) where
       go true o true s true k = let z : _≡_ {A = ℕ} 6 7 = rw (o, s, k) at e in omega arith
       go true o true s false k = let z : _≡_ {A = ℕ} 0 7 = rw (o, s, k) at e in omega arith
 
--- the greatest are reached, by computation
+-- what is unfolded is for silenceComes and quietComes, which are computed
 pub no-overrun : NoOverrun
 unfolding silentFor ticksBy freshOf openOf isNotOpen beatingAt liveAt beatingOf sentOf heardOf setBeat formOf beatOf tickStep sweepOf sweptOf sweptHolder connectionTicked closesAt quietAfter livesIn recordObeys deviceObeys heldObeys countObeys connectionObeys isClosed isIdle isTimed formObeys entryObeys isFree isSound isTwin apart isMuteValue holderObeys mechanismObeys isAddressTaken zeros allZero
 no-overrun =

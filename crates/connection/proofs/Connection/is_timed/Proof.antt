@@ -1,5 +1,4 @@
-use Rattle.connection.specs.Obeys.{isTimed}
-use Rattle.connection.proofs.Times.{third}
+use Rattle.connection.proofs.Keeps.{timed-tested}
 use borrow.Author.Needs.{needs}
 use Rattle.connection.proofs.Connection.is_timed.Statement.{statement}
 use Rattle.connection.proofs.Connection.is_timed.Tie as tie
@@ -8,8 +7,7 @@ form-obeys-requires : tie.Need-form-obeys-requires
 form-obeys-requires c κs = search needs
 
 returns : tie.Need-returns
-unfolding isTimed
-returns c = rw (third, c .before .before .before .before .before .before .form-obeys .ensures)
+returns c = timed-tested _ _ (c .before .before .before .before .before .before .form-obeys .ensures)
 
 pub is-timed-spec : {M : Type 1} → statement M
 is-timed-spec = tie.close (tie.spec form-obeys-requires returns)
