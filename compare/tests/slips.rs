@@ -44,6 +44,9 @@ slips! {
     ClosesOnlyPastThreeH,
     DueOnlyPastH,
     QuietGrowsWhileDue,
+    QuietStandsAtATick,
+    SilenceStartsAnew,
+    ClosedIsCounted,
     ZeroHeartbeatCloses,
     HalfRoundPasses,
     TickIgnoresTheArea,
@@ -137,6 +140,17 @@ fn every_slip_is_found() {
                 println!("{slip:?}: {}", text.lines().next().unwrap_or_default());
             }
         }
+    }
+}
+
+#[test]
+fn a_clock_that_matters_is_found_where_both_programs_have_it() {
+    for slip in [SilenceStartsAnew, QuietStandsAtATick] {
+        let difference = gate::gate(&Slipping(slip), &Slipping(slip)).expect_err("a slip");
+        assert_eq!(
+            difference.reason, "ticks do not come to the one of all their steps",
+            "{slip:?}"
+        );
     }
 }
 
@@ -466,6 +480,9 @@ impl Engine for Slipping {
                 }
                 DueOnlyPastH if before.beat > 0 && quiet == before.beat => after.due = before.due,
                 QuietGrowsWhileDue if before.due => after.quiet += u64::from(step),
+                QuietStandsAtATick if after.quiet > before.quiet => after.quiet = before.quiet,
+                SilenceStartsAnew if after.silence > 0 => after.silence = u64::from(step),
+                ClosedIsCounted if before.beat == 0 => after.silence += u64::from(step),
                 ZeroHeartbeatCloses if before.live && before.beat == 0 => answer.closed |= 1 << n,
                 _ => {}
             }

@@ -53,6 +53,10 @@ pub struct Counts {
     beyond: u64,
     /// Those of them that 1 refused.
     beyond_refused: u64,
+    /// Lists of ticks held to one tick.
+    clocks: u64,
+    /// Those of them that closed a connection.
+    clocks_closing: u64,
     reset: ResetCounts,
 }
 
@@ -91,6 +95,12 @@ impl Counts {
             (_, Answer::Part(_)) => self.empty_parts += 1,
             _ => {}
         }
+    }
+
+    /// Counts a list of ticks held to one, by the connections that it closed.
+    pub fn count_clock(&mut self, closed: u8) {
+        self.clocks += 1;
+        self.clocks_closing += u64::from(closed != 0);
     }
 
     fn count_beyond(&mut self, call: &Call, number: usize) {
@@ -166,6 +176,8 @@ impl Counts {
         self.empty_parts += other.empty_parts;
         self.beyond += other.beyond;
         self.beyond_refused += other.beyond_refused;
+        self.clocks += other.clocks;
+        self.clocks_closing += other.clocks_closing;
         self.reset.add(&other.reset);
     }
 
@@ -227,6 +239,8 @@ impl Counts {
             ("parts with bytes", self.parts),
             ("parts without bytes", self.empty_parts),
             ("ticks whose sum does not fit 64 bits", self.beyond),
+            ("lists of ticks held to one", self.clocks),
+            ("lists of ticks that closed", self.clocks_closing),
         ]
         .into_iter()
     }
@@ -304,6 +318,7 @@ impl Counts {
              taken                   notifications {}, keep-alives {}, nothing {}\n\
              parts                   with bytes {}, empty {}\n\
              sums beyond 64 bits     tried {}, refused by 1: {}\n\
+             lists of ticks          held to one tick {}, of them closing {}\n\
              calls in all            {}\n\
              kinds that have to come {}, the rarest {} times",
             self.more,
@@ -318,6 +333,8 @@ impl Counts {
             self.empty_parts,
             self.beyond,
             self.beyond_refused,
+            self.clocks,
+            self.clocks_closing,
             self.total(),
             self.lines().len(),
             self.rarest()

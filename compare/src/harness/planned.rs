@@ -15,7 +15,7 @@ const HALF: u32 = 1 << 31;
 
 type Plan = fn(&mut Desk<'_, '_>) -> Checked<()>;
 
-const PLANS: [Plan; 26] = [
+const PLANS: [Plan; 27] = [
     states::freshness,
     states::beyond_64_bits,
     states::full_table,
@@ -42,6 +42,7 @@ const PLANS: [Plan; 26] = [
     reset::mechanisms,
     messages::every_entry,
     time::greatest_counts,
+    time::slow_clocks,
 ];
 
 /// Goes through all plans.

@@ -3,3 +3,4 @@ pub mod Clears
 pub mod Counts
 pub mod Gathers
 pub mod Lies
+pub mod Again

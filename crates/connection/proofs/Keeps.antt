@@ -4,7 +4,7 @@ use mathlib.Core.Path.{_≡_, refl, ap}
 use mathlib.Core.Logic.{_⊎_, inl, inr, ⊎-elim}
 use mathlib.Core.Bool.{Bool, true, false, cond, not, _&&_, _||_}
 use native.Mathlib.Omega.{arith}
-use borrow.Author.Tests.{ltb-true, lt-ltb, le-leb, leb-true, leb-false, eqb-true, eqb-false, eq-eqb, not-true}
+use borrow.Author.Tests.{ltb-true, lt-ltb, le-leb, lt-leb, leb-true, leb-false, eqb-true, eqb-false, eq-eqb, not-true}
 use lib.Dec.{leb, ltb, eqb}
 use Rattle.laws.proofs.Conds.{and-left, and-right}
 use Rattle.laws.proofs.Tables.{and-both, or-cases, or-right}
@@ -17,7 +17,10 @@ use Rattle.connection.specs.Supervision.{greatestSilence, greatestQuiet,
 use Rattle.connection.specs.Kept.{fitsForm, SupervisionKept}
 use Rattle.connection.specs.Setters.{counted, supervised}
 use Rattle.connection.specs.declared.Connection.{Connection}
+use Rattle.connection.specs.Steps.{StepsAdd}
+use Rattle.connection.proofs.Worked.{steps-worked}
 use Rattle.connection.proofs.Times.{third, obeys-bound}
+use Rattle.connection.proofs.Steps.{both, either}
 
 -- ---- the rules by name
 record Still (c : Connection) : Type 0 where
@@ -265,3 +268,31 @@ supervision-kept =
       counting = counting;
       telling = telling;
     }
+
+-- ---- a step of 0
+nobody : (c : Connection) → connectionObeys c ≡ true → closesAt 0 c ≡ false
+unfolding closesAt
+nobody c h =
+    ⊎-elim (λ (s : Still c). rw (eq-eqb (c .beat) 0 (s .beat)))
+    (λ (t : Timed c). rw (t .nz, lt-leb (3 * c .beat) (c .silence + 0) (omega (arith, t .early)))) (obeys-view c h)
+
+nothing : (c : Connection) → connectionObeys c ≡ true → connectionTicked 0 c ≡ c
+unfolding connectionTicked quietAfter
+nothing c h = ⊎-elim (λ (s : Still c). rw (eq-eqb (c .beat) 0 (s .beat))) timed (obeys-view c h)
+  where
+    silent : c .silence + 0 ≡ c .silence
+    silent = omega arith
+
+    quiet : c .quiet + 0 ≡ c .quiet
+    quiet = omega arith
+
+    go : Timed c → (d : Bool) → c .due ≡ d → connectionTicked 0 c ≡ c
+    go t true d = rw (t .nz, nobody c h, d, silent)
+    go t false d =
+        rw (t .nz, nobody c h, d, lt-leb (c .beat) (c .quiet + 0) (omega (arith, t .quiet)), silent, quiet)
+
+    timed : Timed c → connectionTicked 0 c ≡ c
+    timed t = go t (c .due) refl
+
+pub steps-add : StepsAdd
+steps-add = record { worked = steps-worked; both = both; either = either; nothing = nothing; nobody = nobody }

@@ -9,6 +9,7 @@ ghost use Rattle.laws.specs.Lists.{all, mask};
 ghost use Rattle.connection.specs.State.{liveAt, lowestFree, lowestDue};
 ghost use Rattle.connection.specs.Obeys.{isClosed, isIdle, formObeys, isTimed, connectionObeys};
 ghost use Rattle.connection.specs.Kept.{SupervisionKept};
+ghost use Rattle.connection.specs.Steps.{StepsAdd};
 ghost use Rattle.connection.specs.Supervision.{greatestQuiet, closesAt, quietAfter, connectionTicked};
 ghost use Rattle.connection.specs.Supervision.{heardOf, sentOf, setBeat, beatingOf, heartbeatKept};
 
@@ -278,4 +279,9 @@ pub fn all_ticked(connections: [Connection; 8], step: u32) -> [Connection; 8]
 // The rules are kept by whatever happens to a connection; it has a line in the verdict as this contract.
 pub fn supervision_kept()
     ensures { λ _. ⌜ SupervisionKept ⌝ }
+{}
+
+// Two ticks of a connection come to one tick of both steps.
+pub fn steps_add()
+    ensures { λ _. ⌜ StepsAdd ⌝ }
 {}

@@ -3,3 +3,4 @@ pub mod Commands
 pub mod Shapes
 pub mod Keeps
 pub mod Closures
+pub mod Steps

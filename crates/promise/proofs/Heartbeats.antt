@@ -8,7 +8,7 @@ use native.Mathlib.Omega.{arith}
 use lib.Dec.{eqb, leb, ltb}
 use lib.ListN.{length, getD, set, take, length-set}
 use lib.Seq.{getD-set-same, getD-set-other}
-use borrow.Author.Tests.{eqb-true, eqb-false, eq-eqb, ne-eqb, le-leb, lt-leb, le-ltb, ltb-true, ltb-false, not-true}
+use borrow.Author.Tests.{eqb-true, eqb-false, eq-eqb, ne-eqb, le-ltb, ltb-true, ltb-false, not-true}
 use Rattle.laws.specs.Lists.{any, index}
 use Rattle.laws.proofs.Conds.{and-left, and-right}
 use Rattle.laws.proofs.Tables.{and-both, or-cases, or-right, clash, any-index}
@@ -19,10 +19,11 @@ use Rattle.frame.specs.declared.Decision.the-variants.{Sound}
 use Rattle.area.specs.Area.{heldObeys}
 use Rattle.connection.specs.State.{closed, liveAt, isDue, lowestDue}
 use Rattle.connection.specs.Obeys.{isClosed, isIdle, formObeys, isTimed, connectionObeys}
-use Rattle.connection.specs.Supervision.{closesAt, quietAfter, connectionTicked, heardOf, sentOf, heartbeatKept}
+use Rattle.connection.specs.Supervision.{closesAt, connectionTicked, heardOf, sentOf, heartbeatKept}
 use Rattle.connection.specs.declared.Connection.{Connection}
 use Rattle.connection.specs.Setters.{counted}
 use Rattle.connection.proofs.Keeps.{supervision-kept}
+use Rattle.connection.proofs.Steps.{keeps-due, falls-due, counts-on}
 use Rattle.subscription.specs.State.{isWaiting, toldOf, lowestWaiting}
 use Rattle.subscription.specs.declared.Subscription.{Subscription}
 use Rattle.replies.specs.Bytes.{keepAliveBytes, notificationBytes, leastOutput}
@@ -64,20 +65,7 @@ paced-as d e n H q b w s q' b' f =
       marked = ap (λ (x : Connection). x .due) f;
     }
 
--- ---- a tick of one connection that stays open
-module _ (step : ℕ) (c : Connection) (z : eqb (c .beat) 0 ≡ false) (k : closesAt step c ≡ false) where
-  falls-due : c .due ≡ false → c .beat ≤ c .quiet + step → connectionTicked step c ≡ counted c (c .silence + step) 0 true
-  unfolding connectionTicked quietAfter
-  falls-due d h = rw (z, k, d, le-leb (c .beat) (c .quiet + step) h)
-
-  counts-on : c .due ≡ false → c .quiet + step < c .beat → connectionTicked step c ≡ counted c (c .silence + step) (c .quiet + step) false
-  unfolding connectionTicked quietAfter
-  counts-on d h = rw (z, k, d, lt-leb (c .beat) (c .quiet + step) h)
-
-  keeps-due : c .due ≡ true → connectionTicked step c ≡ counted c (c .silence + step) (c .quiet) true
-  unfolding connectionTicked quietAfter
-  keeps-due d = rw (z, k, d)
-
+-- ---- a tick that leaves connection n open
 -- connection n of the record
 abbrev connectionAt : Record → ℕ → Connection
 connectionAt r n = getD (r .device .connections) n closed
@@ -120,7 +108,7 @@ module _ (r : Record) (area : List ℕ) (reading : ℕ) (p : passes r area readi
 
 -- ---- ticks one after another
 -- who is open at last was open before
-open-before : (r : Record) (area readings : List ℕ) (n : ℕ) → allPass r area readings ≡ true → openAtLast r area readings n ≡ true → liveAt (r .device .connections) n ≡ true
+pub open-before : (r : Record) (area readings : List ℕ) (n : ℕ) → allPass r area readings ≡ true → openAtLast r area readings n ≡ true → liveAt (r .device .connections) n ≡ true
 unfolding ticksCall allPass
 open-before r area [] n p o = o
 open-before r area (x ∷ rest) n p o =

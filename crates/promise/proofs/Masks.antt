@@ -1,13 +1,15 @@
--- The bits of a mask: for DeviceLaws and Closure. Assumes nothing.
-use Prim.Native.Nat.{ℕ, zero, suc, _+_, _*_, _/_, _%_, _^_, _≤_, _<_}
-use mathlib.Core.Path.{_≡_, refl}
-use mathlib.Core.Bool.{Bool, cond, true, false}
-use mathlib.Core.List.{List, [], _∷_}
+-- The bits of a mask, and masks joined: for DeviceLaws and Closure, and for the clock. Assumes nothing.
+use Prim.Native.Nat.{ℕ, zero, suc, max, _+_, _*_, _/_, _%_, _^_, _≤_, _<_}
+use mathlib.Core.Path.{_≡_, refl, _∙_}
+use mathlib.Core.Bool.{Bool, cond, true, false, _||_}
+use mathlib.Core.List.{List, [], _∷_, map}
 use native.Mathlib.Omega.{arith}
 use native.Mathlib.Nat.{not-suc-le-zero, le-of-suc-le-suc}
+use lib.Bits.{bitOr, or-step, or-zero-l}
 use lib.Dec.{eqb}
 use lib.ListN.{length, getD}
-use Rattle.laws.specs.Lists.{mask}
+use Rattle.laws.specs.Lists.{all, mask}
+use Rattle.laws.proofs.Conds.{and-left, and-right}
 use Rattle.promise.specs.Rulebook.{bitOf}
 
 bit-low : (m : ℕ) (b : Bool) → eqb ((cond b 1 0 + 2 * m) % 2) 1 ≡ b
@@ -48,3 +50,36 @@ mask-small p (x ∷ l) (suc n) h = go (p x) (mask-small p l n (le-of-suc-le-suc 
     go : (b : Bool) → mask p l < 2 ^ n → cond b 1 0 + 2 * mask p l < 2 ^ suc n
     go true z = omega arith
     go false z = omega arith
+
+-- ---- masks joined, of a list and of what becomes of it
+low-bit : (m : ℕ) (b : Bool) → (cond b 1 0 + 2 * m) % 2 ≡ cond b 1 0
+low-bit m true = omega arith
+low-bit m false = omega arith
+
+join-bit : (m : ℕ) (a b : Bool) → m * 2 + max (cond a 1 0) (cond b 1 0) ≡ cond (a || b) 1 0 + 2 * m
+join-bit m true true = omega arith
+join-bit m true false = omega arith
+join-bit m false true = omega arith
+join-bit m false false = omega arith
+
+pub mask-join : {A : Type 0} (p q : A → Bool) (f : A → A) (l : List A) → bitOr (mask p l) (mask q (map f l)) ≡ mask (λ (x : A). p x || q (f x)) l
+mask-join p q f [] = or-zero-l 0
+mask-join {A = A} p q f (x ∷ l) =
+    or-step (mask p (x ∷ l)) (mask q (map f (x ∷ l)))
+    ∙ rw (
+      bit-half (mask p l) (p x),
+      bit-half (mask q (map f l)) (q (f x)),
+      low-bit (mask p l) (p x),
+      low-bit (mask q (map f l)) (q (f x)),
+      mask-join p q f l,
+    )
+    (join-bit (mask (λ (x : A). p x || q (f x)) l) (p x) (q (f x)))
+
+pub mask-same : {A : Type 0} (p q : A → Bool) → ((x : A) → p x ≡ q x) → (l : List A) → mask p l ≡ mask q l
+mask-same p q e [] = refl
+mask-same p q e (x ∷ l) = rw (e x, mask-same p q e l)
+
+-- nobody meets the test where all obey
+pub mask-nobody : {A : Type 0} (p o : A → Bool) → ((x : A) → o x ≡ true → p x ≡ false) → (l : List A) → all o l ≡ true → mask p l ≡ 0
+mask-nobody p o k [] h = refl
+mask-nobody p o k (x ∷ l) h = rw (k x (and-left (o x) (all o l) h), mask-nobody p o k l (and-right (o x) (all o l) h))

@@ -36,12 +36,12 @@ use Rattle.endpoint.specs.declared.Record.{Record}
 use Rattle.promise.specs.Rulebook.{opening, ticking}
 use Rattle.promise.specs.Calls.{callOf}
 use Rattle.promise.specs.Kept.{Kept}
-use Rattle.promise.specs.Ticks.{stepAt, passes}
+use Rattle.promise.specs.Ticks.{stepAt, passes, Watched}
 use Rattle.promise.specs.Heartbeats.{broughtBy}
 use Rattle.promise.specs.Reset.{asksIn}
 use Rattle.promise.proofs.Kept.{calls-keep}
 use Rattle.promise.proofs.Ticks as ticked
-use Rattle.technician.specs.Silence.{Watched, isSilent, callsOf, allSilent, stepIn, timeIn}
+use Rattle.technician.specs.Silence.{isSilent, callsOf, allSilent, stepIn, timeIn}
 use Rattle.technician.specs.Lock.{lockBytes, CanAsk, lockCall, Answered, asksNow, nobodyLocks}
 use Rattle.technician.specs.Technician.{keepAlive30s, atLast, sinceThen, thenTick, Ends, beatIn, beatAfter, GoesSilent, Reaches, Asks, Waits}
 use Rattle.technician.specs.Evening.{lent, hall, greeted, dying, inVain, evening, TakenOver, EveningInAHall}

@@ -30,9 +30,9 @@ use Rattle.delivery.specs.Intake.{messaged, deliveredBy, takenIn}
 use Rattle.endpoint.specs.Deliver.{heldAt, deliverCall}
 use Rattle.endpoint.specs.declared.Record.{Record}
 use Rattle.endpoint.proofs.States.{live-low}
+use Rattle.promise.specs.Ticks.{Watched}
 use Rattle.promise.specs.Heartbeats.{broughtBy}
 use Rattle.promise.proofs.Ways.{done-ways, run-ways}
-use Rattle.technician.specs.Silence.{Watched}
 use Rattle.technician.specs.Technician.{Ends, beatIn, beatAfter}
 
 -- ---- the device after it

@@ -27,9 +27,9 @@ use Rattle.endpoint.specs.declared.Record.{Record}
 use Rattle.promise.specs.Rulebook.{ticking}
 use Rattle.promise.specs.Calls.{HostCall, callOf}
 use Rattle.promise.specs.Kept.{Kept}
-use Rattle.promise.specs.Ticks.{stepAt, passes}
+use Rattle.promise.specs.Ticks.{stepAt, passes, Watched}
 use Rattle.promise.proofs.Kept.{calls-keep}
-use Rattle.technician.specs.Silence.{Watched, stepIn, callsOf, timeIn}
+use Rattle.technician.specs.Silence.{stepIn, callsOf, timeIn}
 use Rattle.technician.specs.Lock.{lockBytes, replyBytes, holderIn}
 use Rattle.technician.specs.Technician.{Course, spoken, atLast, sinceThen, thenTick, GoesSilent, Holds, Reaches, Asks, Waits, Closes, Enters, beatIn, keepAlive30s, mostInSeconds, mostInMilliseconds, Exactly, TechnicianLetIn}
 use Rattle.technician.proofs.Untouched.{half}

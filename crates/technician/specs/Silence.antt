@@ -1,27 +1,18 @@
 -- R28, R32, R51 to R53. Calls in which a connection says nothing whole, and the time that they bring.
 use Prim.Native.Nat.{ℕ, _+_}
-use mathlib.Core.Path.{_≡_}
 use mathlib.Core.Bool.{Bool, cond, true, not, _&&_, _||_}
 use mathlib.Core.List.{List, [], _∷_}
 use lib.Dec.{eqb, ltb}
-use lib.ListN.{length, getD}
+use lib.ListN.{length}
 use Rattle.frame.specs.Decide.{decide, settled}
 use Rattle.mechanism.specs.Datagram.{resets}
-use Rattle.connection.specs.State.{closed, liveAt}
 use Rattle.replies.specs.Bytes.{leastOutput}
-use Rattle.device.specs.declared.Device.{Device}
 use Rattle.stream.specs.Calls.{deliver, ask}
 use Rattle.endpoint.specs.declared.Record.{Record}
 use Rattle.promise.specs.Rulebook.{opening, closing, ticking, taking, datagram}
 use Rattle.promise.specs.Calls.{HostCall, callOf}
 use Rattle.promise.specs.Ticks.{stepAt, passes}
 use Rattle.promise.specs.Heartbeats.{broughtBy}
-
--- R53. Connection n is open, with heartbeat H and that silence.
-pub record Watched (d : Device) (n H silence : ℕ) : Type 0 where
-  pub live : liveAt (d .connections) n ≡ true
-  pub beat : getD (d .connections) n closed .beat ≡ H
-  pub silent : getD (d .connections) n closed .silence ≡ silence
 
 -- R32. By this call connection n says no whole message, and neither the host nor a reset closes it; what is refused says nothing.
 unfoldable pub isSilent : ℕ → Record → List ℕ → HostCall → Bool

@@ -32,9 +32,9 @@ use Rattle.endpoint.specs.declared.Record.{Record}
 use Rattle.promise.specs.Rulebook.{ticking, bitOf}
 use Rattle.promise.specs.Calls.{HostCall}
 use Rattle.promise.specs.Kept.{Accepted, Kept}
-use Rattle.promise.specs.Ticks.{stepAt, passes}
+use Rattle.promise.specs.Ticks.{stepAt, passes, Watched}
 use Rattle.promise.specs.Heartbeats.{broughtBy}
-use Rattle.technician.specs.Silence.{Watched, callsOf, allSilent, timeIn}
+use Rattle.technician.specs.Silence.{callsOf, allSilent, timeIn}
 use Rattle.technician.specs.Lock.{lockBytes, replyBytes, holderIn, CanAsk, Answered, nobodyLocks}
 
 -- ---- the tablet's last message

@@ -1,0 +1,4 @@
+pub mod Two
+pub mod Clock
+pub mod Joins
+pub mod Hosts
