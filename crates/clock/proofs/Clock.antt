@@ -10,7 +10,7 @@ use lib.Bits.{bitOr, or-zero-l}
 use lib.Dec.{ltb}
 use lib.ListN.{getD}
 use Rattle.laws.proofs.Tables.{and-both}
-use Rattle.numbers.specs.Refusal.{notRefused, badRecord, badArea}
+use Rattle.numbers.specs.Refusal.{badRecord, badArea}
 use Rattle.area.specs.Area.{areaSound}
 use Rattle.device.specs.State.{sweepOf}
 use Rattle.device.specs.Time.{stepOf}
@@ -66,12 +66,12 @@ step-both last x y l h k = go (stepOf x last) (stepOf y x) (brings last x l h) (
     go a b (inr e) (inl f) s = step-round last y (a + b) s (omega arith)
     go a b (inr e) (inr f) s = absurd (omega arith)
 
-pub reading-last : (last : ℕ) (xs : List ℕ) → last < 2 ^ 32 → ((i : ℕ) → getD xs i 0 < 2 ^ 32) → lastReading last xs < 2 ^ 32
+reading-last : (last : ℕ) (xs : List ℕ) → last < 2 ^ 32 → ((i : ℕ) → getD xs i 0 < 2 ^ 32) → lastReading last xs < 2 ^ 32
 unfolding lastReading
 reading-last last [] l h = l
 reading-last last (x ∷ xs) l h = reading-last x xs (h 0) (λ i. h (suc i))
 
-pub time-step : (last : ℕ) (xs : List ℕ) → last < 2 ^ 32 → ((i : ℕ) → getD xs i 0 < 2 ^ 32) → ticksTime last xs < 2 ^ 31 → stepOf (lastReading last xs) last ≡ ticksTime last xs
+time-step : (last : ℕ) (xs : List ℕ) → last < 2 ^ 32 → ((i : ℕ) → getD xs i 0 < 2 ^ 32) → ticksTime last xs < 2 ^ 31 → stepOf (lastReading last xs) last ≡ ticksTime last xs
 unfolding lastReading ticksTime
 time-step last [] l h t = step-none last
 time-step last (x ∷ xs) l h t =
@@ -103,15 +103,10 @@ pub next-kept : (r : Record) (area : List ℕ) (x : ℕ) → Kept r area → Kep
 unfolding callOf
 next-kept r area x k = calls-keep .calling r area (ask (ticking x)) tt k
 
-record Comes (r : Record) (area xs : List ℕ) (one : Outcome) : Type 0 where
-  left : ticksCall r area xs ≡ (one .state, one .area)
-  closes : ticksClose r area xs ≡ closedBy one
-  answers : allAnswer notRefused r area xs ≡ true
-
 -- a tick in front
 comes-more : (r : Record) (area : List ℕ) (x y a b : ℕ) (xs : List ℕ) → tickCall r area x ≡ given r area x a
-    → Comes (given r area x a .state) (given r area x a .area) xs (given (given r area x a .state) (given r area x a .area) y b)
-    → Comes r area (x ∷ xs) (given r area y (a + b))
+    → AsOne (given r area x a .state) (given r area x a .area) xs (given (given r area x a .state) (given r area x a .area) y b)
+    → AsOne r area (x ∷ xs) (given r area y (a + b))
 unfolding ticksCall ticksClose allAnswer
 comes-more r area x y a b xs e c =
     record {
@@ -125,7 +120,7 @@ comes-more r area x y a b xs e c =
 
 comes : (r : Record) (area xs : List ℕ) → Kept r area → r .device .reading < 2 ^ 32 → ((i : ℕ) → getD xs i 0 < 2 ^ 32)
     → ticksTime (r .device .reading) xs < 2 ^ 31
-    → Comes r area xs (given r area (lastReading (r .device .reading) xs) (ticksTime (r .device .reading) xs))
+    → AsOne r area xs (given r area (lastReading (r .device .reading) xs) (ticksTime (r .device .reading) xs))
 unfolding ticksCall ticksClose allAnswer ticksTime lastReading sweepOf
 comes r area [] k l h t =
     let e = none-given r area k in
@@ -153,9 +148,9 @@ as-one r area xs w t = go (recordObeys r) refl (areaSound (r .held) area) refl
     go true o false f = none-as-one r area badArea (λ x. rw (o, f)) xs y
     go true o true f =
         let k : Kept r area = record { obeys = o; sound = f; eight = w .eight; counts = w .counts; octets = w .octets } in
-        let c = comes r area xs k (w .reading) (w .each) t in
         let e = tick-is r area y (ticksTime (r .device .reading) xs) o f (time-step (r .device .reading) xs (w .reading) (w .each) t) t in
-        rw e (record { left = c .left; closes = c .closes; answers = c .answers })
+        rw e (comes r area xs k (w .reading) (w .each) t)
 
+-- the limit is the theorem's own, so that a wider one is refused by a number
 pub slow-clock : SlowClock
-slow-clock = record { asOne = as-one }
+slow-clock = record { asOne = λ r area xs w t. as-one r area xs w (omega arith) }

@@ -315,14 +315,9 @@ module _ (r : Record) (area : List ℕ) (n H s : ℕ) (t : Tablet r area n H s) 
       let z : suc k - 1 ≡ k = omega arith in
       (rw z (open-below p k h (c .before k (omega arith))), omega arith)
 
-  ticks-apart : (j k : ℕ) → ClosesAtTick r area 1 j n → ClosesAtTick r area 100 k n
-      → (3 * H ≤ s + j) × (3 * H ≤ s + 100 * k) × (j ≤ 100 * k) × (100 * k < j + 100)
-  ticks-apart j k a b =
-      let x = shut-above 1 j (omega arith) (a .then) in
-      let y = shut-above 100 k (omega arith) (b .then) in
-      let u = just 1 j (omega arith) a in
-      let v = just 100 k (omega arith) b in
-      (omega arith, omega arith, omega (arith, u .0, u .1), omega (arith, v .0, v .1))
+  -- it closes at the first tick that comes to 3 × H
+  first-late : (p k : ℕ) → p < 2 ^ 31 → ClosesAtTick r area p k n → (3 * H ≤ s + k * p) × (s + (k - 1) * p < 3 * H) × (0 < k)
+  first-late p k h c = (shut-above p k h (c .then), just p k h c .0, just p k h c .1)
 
   -- ---- what falls due
   module _ (q : ℕ) (w : Paced (r .device) n H q false) where
@@ -379,6 +374,7 @@ tablet =
       watched = record { live = refl; beat = refl; silent = refl };
     }
 
+-- the numbers are the theorem's own, so that others are refused by numbers
 pub two-hosts : TwoHosts
 two-hosts =
     record {
@@ -388,9 +384,13 @@ two-hosts =
       live = λ r area n H s p k t h. live r area n H s t p k h;
       fast = fast;
       slow = slow;
-      apart = λ r area n H s j k t. ticks-apart r area n H s t j k;
+      apart =
+          λ r area n H s j k t a b.
+          let x = first-late r area n H s t 1 j (omega arith) a in
+          let y = first-late r area n H s t 100 k (omega arith) b in
+          (omega (arith, x .0), omega (arith, y .0), omega (arith, x .1, x .2, y .0), omega (arith, x .0, y .1, y .2));
       due = λ r area n H s q p k t w. due r area n H s t q w p k;
-      dueBy = λ r area n H s q j k t w. due-by r area n H s t q w j k;
+      dueBy = λ r area n H s q j k t w l. due-by r area n H s t q w j k (omega arith);
       heardNow = λ r area n t. (fast r area n 2000 0 t, slow r area n 2000 0 t);
       heardBefore = λ r area n t. (fast r area n 2000 99 t, slow r area n 2000 99 t);
       tablet = tablet;
