@@ -364,7 +364,9 @@ melorwyth_opened melorwyth_open(melorwyth_record record);
 /* Closes connection n: its locks, subscriptions and undecided bytes are gone. */
 melorwyth_closed melorwyth_close(melorwyth_record record, uint8_t *area, size_t area_length, uint8_t n);
 
-/* Brings time: the counter's reading now. Connections silent for 3 H or more are closed. */
+/* Brings time: the counter's reading now. Connections silent for 3 H or more are closed.
+   Ticks with no other call between come to one tick at the last reading: how often you tick
+   makes no difference but in how late a closure or a keep-alive comes. Tick at least every 24 days. */
 melorwyth_ticked melorwyth_tick(melorwyth_record record, uint8_t *area, size_t area_length, uint32_t reading);
 
 /* Gives connection n a piece of what it received. Bytes are taken up to and including the first
