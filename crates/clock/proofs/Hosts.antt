@@ -378,7 +378,7 @@ tablet =
 pub two-hosts : TwoHosts
 two-hosts =
     record {
-      same = λ r area q k w h. same-any r area q k w h .left;
+      same = λ r area q k w h. same-any r area q k w (omega arith) .left;
       closedSame = λ r area q k w h. same-any r area q k w h .closes;
       uneven = λ r area xs n H s t. watched-live r area xs n H s (kept r area n H s t) (t .above) (t .watched);
       live = λ r area n H s p k t h. live r area n H s t p k h;
