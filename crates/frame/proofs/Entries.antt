@@ -6,11 +6,11 @@ use mathlib.Core.Bool.{Bool, cond, true, false, false≢true}
 use native.Mathlib.Omega.{arith}
 use lib.Dec.{ltb, eqb}
 use lib.ListN.{length, drop, getD, length-drop}
-use borrow.Author.Tests.{eq-eqb, ne-eqb, lt-ltb, le-ltb, ltb-false, eqb-false}
+use borrow.Author.Tests.{eq-eqb, ne-eqb, lt-ltb, le-ltb, ltb-false, eqb-true, eqb-false}
 use Rattle.laws.proofs.Conds.{cond-left, cond-right}
 use Rattle.octets.specs.Numbers.{be32At}
-use Rattle.frame.specs.Limits.{notification, leastCommand, leastNotification, leastResponse}
-use Rattle.frame.specs.Entry.{leastEntry, countPlace, entryFits, entrySize, entriesFill}
+use Rattle.frame.specs.Limits.{notification, response, leastCommand, leastNotification, leastResponse}
+use Rattle.frame.specs.Entry.{leastEntry, countPlace, leastCount, countFits, entryFits, entrySize, entriesFill, wellFormed}
 
 -- the parameter count stands before the parameters, behind the size
 pub least-holds : (k : ℕ) → (10 ≤ leastEntry k) × (leastEntry k ≤ 25) × (countPlace k < leastEntry k)
@@ -30,6 +30,13 @@ fits-within k size count part e =
     let p = cond-right (ltb size (leastEntry k)) false _ true e false≢true in
     let q = cond-right (ltb (length part) (size - leastEntry k)) false _ true (p .1) false≢true in
     omega (arith, ltb-false size (leastEntry k) (p .0), ltb-false (length part) (size - leastEntry k) (q .0))
+
+-- and its count goes with them
+pub fits-count : (k size count : ℕ) (part : List ℕ) → entryFits k size count part ≡ true → countFits (leastCount k) count (size - leastEntry k) ≡ true
+unfolding entryFits
+fits-count k size count part e =
+    let p = cond-right (ltb size (leastEntry k)) false _ true e false≢true in
+    cond-right (ltb (length part) (size - leastEntry k)) false _ true (p .1) false≢true .1
 
 -- what a well formed entry at the front of t says of its size
 pub record EntryAt (k : ℕ) (t : List ℕ) : Type 0 where
@@ -55,6 +62,27 @@ unfolding entriesFill
 entries-first n k t e =
     let p = cond-right (eqb (entrySize k t) 0) false _ true e false≢true in
     (eqb-false _ _ (p .0), p .1)
+
+pub size-within : (k : ℕ) (t : List ℕ) → (entrySize k t ≡ 0 → ⊥) → entrySize k t ≤ length t
+size-within k t nz = let w = entry-at k t nz in omega (arith, w .size, w .high)
+
+-- exactly one entry: its size is its length
+pub one-size : (k : ℕ) (e : List ℕ) → entriesFill 1 k e ≡ true → entrySize k e ≡ length e
+unfolding entriesFill
+one-size k e f =
+    let p = entries-first 0 k e f in
+    omega (arith, size-within k e (p .0), eqb-true (length (drop (entrySize k e) e)) 0 (p .1), length-drop (entrySize k e) e)
+
+-- a well formed entry: its type, and one entry of it
+pub well-make : (kind : ℕ) (e : List ℕ) → kind ≤ response → entriesFill 1 kind e ≡ true → wellFormed kind e ≡ true
+unfolding wellFormed
+well-make kind e k f = simp (le-ltb response kind k, f)
+
+pub well-kind : (kind : ℕ) (e : List ℕ) → wellFormed kind e ≡ true → (kind ≤ response) × (entriesFill 1 kind e ≡ true)
+unfolding wellFormed
+well-kind kind e w =
+    let p = cond-right (ltb response kind) false (entriesFill 1 kind e) true w false≢true in
+    (ltb-false response kind (p .0), p .1)
 
 -- no more entries than a tenth of the bytes
 pub entries-few : (n k : ℕ) (t : List ℕ) → entriesFill n k t ≡ true → n * 10 ≤ length t

@@ -1,4 +1,5 @@
 pub mod Entries
+pub mod Counts
 pub mod Walks
 pub mod Headers
 pub mod Ways

@@ -1,7 +1,7 @@
 -- R9, R11 to R14. The entries of a message's data.
 use Prim.Native.Nat.{ℕ, zero, suc, _-_}
 use mathlib.Core.List.{List}
-use mathlib.Core.Bool.{Bool, cond, true, false}
+use mathlib.Core.Bool.{Bool, cond, false}
 use lib.ListN.{length, getD, drop}
 use lib.Dec.{ltb, eqb}
 use Rattle.octets.specs.Numbers.{be32At}
@@ -21,9 +21,9 @@ countPlace kind =
 unfoldable pub leastCount : ℕ → ℕ
 leastCount kind = cond (eqb kind notification) 1 0
 
--- R12. A count and that many parameter bytes go together.
+-- R12. A count and that many parameter bytes go together: none at the least count, one or more above it.
 unfoldable pub countFits : ℕ → ℕ → ℕ → Bool
-countFits least count bytes = cond (ltb count least) false (cond (eqb count least) (eqb bytes 0) true)
+countFits least count bytes = cond (ltb count least) false (cond (eqb count least) (eqb bytes 0) (ltb 0 bytes))
 
 -- R11, R12. An entry of that size and count, with the message from its parameter offset on: the size reaches no further.
 unfoldable pub entryFits : ℕ → ℕ → ℕ → List ℕ → Bool

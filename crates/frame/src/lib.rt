@@ -6,6 +6,7 @@ ghost use lib.ListN.{length};
 ghost use Rattle.octets.specs.Numbers.{be32At};
 ghost use Rattle.frame.specs.Header.{countFault, fieldsFault, headerFault};
 ghost use Rattle.frame.specs.Entry.{leastEntry, countPlace, leastCount, countFits, entryFits, entrySize, entriesFill, wellFormed};
+ghost use Rattle.frame.specs.Counts.{CountTells};
 ghost use Rattle.frame.specs.Decide.{keepAliveFill, dataSound, decideData, decideHeader, decide};
 ghost use Rattle.frame.specs.Deciding.{Deciding};
 ghost use Rattle.frame.specs.Scaffold.{entriesStand, restFrom, dataRest, hasHeader, Finds};
@@ -147,7 +148,7 @@ fn least_count(kind: u8) -> u8
     0
 }
 
-// least is the count that has no parameter bytes.
+// least is the count that has no parameter bytes; above it there is at least one.
 fn count_fits(least: u8, count: u8, bytes: usize) -> bool
     ensures { λ r. ⌜ r ≡ countFits least count bytes ⌝ }
 {
@@ -157,7 +158,7 @@ fn count_fits(least: u8, count: u8, bytes: usize) -> bool
     if count == least {
         return bytes == 0;
     }
-    true
+    0 < bytes
 }
 
 // The entry check: part is the message from the entry's parameter offset on.
@@ -255,6 +256,11 @@ pub fn well_formed(kind: u8, e: &[u8]) -> bool
     }
     entries_fill(e, kind, 1)
 }
+
+// R12. No parameters and no parameter bytes are the same, whatever the type.
+pub fn count_tells()
+    ensures { λ r. ⌜ CountTells ⌝ }
+{}
 
 fn keep_alive_fill(body: &[u8]) -> bool
     ensures { λ r. ⌜ r ≡ keepAliveFill (now (body .entry)) ⌝ }

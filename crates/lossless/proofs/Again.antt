@@ -8,7 +8,7 @@ use native.Mathlib.Nat.{add-zero, not-suc-le-zero}
 use lib.Dec.{eqb}
 use lib.ListN.{length, take, drop, length-append, take-append-drop}
 use lib.Seq.{length-front, take-all, length-take-le}
-use borrow.Author.Tests.{eq-eqb, ne-eqb, le-ltb, eqb-true, eqb-false, le-leb}
+use borrow.Author.Tests.{eq-eqb, ne-eqb, eqb-true, eqb-false, le-leb}
 use Rattle.laws.proofs.Conds.{cond-left, cond-right}
 use Rattle.laws.proofs.Parts.{nil-of}
 use Rattle.octets.specs.Numbers.{be16At, be32At, bytes16, bytes32, Octets}
@@ -18,11 +18,11 @@ use Rattle.heartbeat.specs.declared.Heartbeat.the-variants.{InSeconds, InMillis
 use Rattle.numbers.specs.Fault.{faultCount}
 use Rattle.frame.specs.Limits.{greatestSize, response, keepAlive, secondsBytes, millisecondsBytes}
 use Rattle.frame.specs.Header.{pduType, messageCount, countFault}
-use Rattle.frame.specs.Entry.{entrySize, entriesFill, wellFormed}
+use Rattle.frame.specs.Entry.{entrySize, entriesFill}
 use Rattle.frame.specs.Decide.{keepAliveFill, decide}
 use Rattle.frame.specs.declared.Decision.{Decision}
 use Rattle.frame.specs.declared.Decision.the-variants.{Undecided, Faulty, Sound}
-use Rattle.frame.proofs.Entries.{entries-first}
+use Rattle.frame.proofs.Entries.{entries-first, well-make}
 use Rattle.frame.proofs.Headers.{sound-header}
 use Rattle.frame.proofs.Sounds.{sound-at}
 use Rattle.fields.specs.Fields.{heartbeatOf}
@@ -44,10 +44,6 @@ use Rattle.writer.proofs.Runs.{front-twice}
 front-room : (m buf : List ℕ) → length m ≤ length buf → length (atFront m buf) ≡ length buf
 unfolding atFront
 front-room m buf h = length-front buf m (length m) (sym (length-take-le (length m) buf h))
-
-pub well-make : (kind : ℕ) (e : List ℕ) → kind ≤ response → entriesFill 1 kind e ≡ true → wellFormed kind e ≡ true
-unfolding wellFormed
-well-make kind e k f = simp (le-ltb response kind k, f)
 
 module _ (buf : List ℕ) (kind : ℕ) (room : leastRoom ≤ length buf) (low : kind ≤ response) where
   made-as : (es ds : List (List ℕ)) (n m : ℕ) (a b : List ℕ) → es ≡ ds → n ≡ m → a ≡ b → Made buf kind es n a → Made buf kind ds m b

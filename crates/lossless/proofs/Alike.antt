@@ -19,6 +19,7 @@ use Rattle.frame.specs.Entry.{entrySize, entriesFill}
 use Rattle.frame.specs.Decide.{decide}
 use Rattle.frame.specs.declared.Decision.{Decision}
 use Rattle.frame.specs.declared.Decision.the-variants.{Undecided, Faulty, Sound}
+use Rattle.frame.proofs.Entries.{well-make}
 use Rattle.frame.proofs.Sounds.{sound-at}
 use Rattle.fields.specs.Place.{entriesFrom, entryBytes}
 use Rattle.fields.specs.Fields.{heartbeatOf}
@@ -39,7 +40,7 @@ use Rattle.writer.proofs.Runs.{made-bytes}
 use Rattle.lossless.specs.Again.{entryAgain, AllRebuilt}
 use Rattle.lossless.specs.Lossless.{EntryOf, ReadAlike, FieldsDetermine, WriteAfterRead}
 use Rattle.lossless.proofs.Layouts.{answerOf, answer-numbers, answer-laid, entry-laid, entries-told}
-use Rattle.lossless.proofs.Again.{well-make, entries-again, read-beat, keep-again}
+use Rattle.lossless.proofs.Again.{entries-again, read-beat, keep-again}
 
 -- the entries of some data are bytes, and each is well formed
 octets-from : (i k : ℕ) (t : List ℕ) → Octets t → Octets (entriesFrom i k t)

@@ -11,7 +11,7 @@ use Rattle.octets.specs.Numbers.{be16At, be32At, bytes16, bytes32, Octets}
 use Rattle.octets.proofs.Digits.{bytes16-be16, bytes32-be32}
 use Rattle.frame.specs.Limits.{notification, leastCommand, leastNotification, leastResponse}
 use Rattle.frame.specs.Entry.{leastEntry, wellFormed}
-use Rattle.frame.proofs.Entries.{entry-at, entries-first}
+use Rattle.frame.proofs.Entries.{entry-at, entries-first, one-size, well-kind}
 use Rattle.fields.specs.Place.{parametersOf}
 use Rattle.fields.specs.Fields.{methodAt, commandOf, notificationOf, responseOf}
 use Rattle.reader.specs.Numbers.{entryNumbers}
@@ -19,8 +19,6 @@ use Rattle.reader.specs.Entry.{fieldsOf}
 use Rattle.reader.specs.declared.Entry.{Entry}
 use Rattle.reader.specs.declared.Entry.the-variants as entry
 use Rattle.reader.proofs.Tells.{numbers-tell}
-use Rattle.writer.proofs.Outcomes.{well-kind}
-use Rattle.writer.proofs.Walks.{one-size}
 use Rattle.lossless.specs.Again.{commandAgain, notificationAgain, responseAgain, entryAgain}
 use Rattle.lossless.specs.Lossless.{EntryOf}
 

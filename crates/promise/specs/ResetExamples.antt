@@ -8,14 +8,16 @@ use Rattle.reader.specs.Examples.{lock4097, reply7}
 use Rattle.layout.specs.Message as layouts
 use Rattle.mechanism.specs.Datagram.{sentinel}
 use Rattle.objects.specs.Methods.{deviceManager, subscriptionManager}
+use Rattle.numbers.specs.Fault.{faultData}
 use Rattle.numbers.specs.Status.{noMethod, malformed, heldByOther, badValue, carriedOut}
-use Rattle.answers.specs.Numbers.{resettingNumbers}
+use Rattle.answers.specs.Numbers.{deliveryNumbers, resettingNumbers}
+use Rattle.answers.specs.declared.Delivery.the-variants as deliveries
 use Rattle.answers.specs.declared.Resetting.{Resetting}
 use Rattle.answers.specs.declared.Resetting.the-variants as resettings
 use Rattle.device.specs.declared.Device.{Device}
-use Rattle.stream.specs.Calls.{asked}
+use Rattle.stream.specs.Calls.{handed, asked}
 use Rattle.promise.specs.Rulebook.{opening, closing, datagram, rule}
-use Rattle.promise.specs.Examples.{Row, row, twoOpen, afterMessage, replyRow}
+use Rattle.promise.specs.Examples.{Row, row, twoOpen, afterMessage, told, replyRow}
 
 -- R71. A command of 3.14 for an object, with handle 7 and this parameter count.
 abbrev pub setKey : ℕ → ℕ → List ℕ → List ℕ
@@ -86,7 +88,11 @@ statusRow part status = replyRow (twoOpen 0) 0 (setKey deviceManager 2 part) (re
 abbrev pub datagramRow : Device → List ℕ → Resetting → Row
 datagramRow d g answer = row (rule d (asked (datagram g)) .1 .answer) (resettingNumbers answer)
 
--- R71, R73. Statuses 0, 7 and 4 of 3.14, and 11 on another object.
+-- R12, R30. A message with a count without bytes: it closes its connection, and gets no reply.
+abbrev pub closedRow : List ℕ → Row
+closedRow m = row (told (rule (twoOpen 0) (handed 0 m []) .1)) (deliveryNumbers (deliveries.Closed (length m) faultData))
+
+-- R71, R73. Statuses 0, 7 and 4 of 3.14, 11 on another object, and a 3.14 that is no message.
 abbrev pub statusRows : List Row
 statusRows =
     statusRow (arguments keyA 0 [] 50000) carriedOut
@@ -101,9 +107,10 @@ statusRows =
     ∷ statusRow (arguments keyA 12 text239 50000) malformed
     ∷ statusRow (arguments keyA 10 text239 50000) malformed
     ∷ statusRow keyA malformed
-    ∷ statusRow [] malformed
+    ∷ replyRow (twoOpen 0) 0 (setKey deviceManager 0 []) (reply7 malformed)
     ∷ replyRow (twoOpen 0) 0 (setKey deviceManager 1 (arguments keyA 0 [] 0)) (reply7 malformed)
     ∷ replyRow (twoOpen 0) 0 (setKey subscriptionManager 2 (arguments keyA 0 [] 50000)) (reply7 noMethod)
+    ∷ closedRow (setKey deviceManager 2 [])
     ∷ []
 
 -- R70, R74. What the record keeps, that a closure leaves it, and that the last key counts.

@@ -8,7 +8,7 @@ use native.Mathlib.Nat.{not-suc-le-zero}
 use lib.Dec.{eqb}
 use lib.ListN.{length, getD, take, drop, length-append}
 use lib.Seq.{take-at, drop-at, length-take-le}
-use borrow.Author.Tests.{ne-eqb, le-ltb}
+use borrow.Author.Tests.{ne-eqb, lt-ltb, le-ltb, eqb-false}
 use Rattle.octets.specs.Numbers.{be32At, bytes32, Octets}
 use Rattle.octets.proofs.Digits.{be32-bytes, octets-drop, octets-take}
 use Rattle.numbers.specs.Refusal.{notRefused}
@@ -40,7 +40,7 @@ told-counts bytes = go (eqb (length bytes) 0) refl
   where
     go : (b : Bool) → eqb (length bytes) 0 ≡ b → countFits 0 (cond b 0 1) (length bytes) ≡ true
     go true e = e
-    go false e = refl
+    go false e = let nz = eqb-false (length bytes) 0 e in lt-ltb 0 (length bytes) (omega arith)
 
 run-counts : (d : Device) (n target m count : ℕ) (part : List ℕ) → Counted (runOf d n target m count part .answer)
 unfolding runOf ranBy answerOf failedOf countFits

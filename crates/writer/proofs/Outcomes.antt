@@ -2,11 +2,10 @@
 use Prim.Native.Nat.{ℕ, _+_, _≤_, _<_}
 use mathlib.Core.Path.{_≡_, refl, sym, _∙_}
 use mathlib.Core.List.{List, _++_}
-use mathlib.Core.Bool.{true, false, false≢true}
+use mathlib.Core.Bool.{true, false}
 use native.Mathlib.Omega.{arith}
-use lib.Dec.{ltb}
 use lib.ListN.{length, length-append}
-use borrow.Author.Tests.{lt-ltb, le-ltb, le-leb, lt-leb, eq-eqb, ne-eqb, ltb-false}
+use borrow.Author.Tests.{lt-ltb, le-ltb, le-leb, lt-leb, eq-eqb, ne-eqb}
 use Rattle.octets.specs.Numbers.{bytes16, bytes32}
 use Rattle.octets.proofs.Digits.{length-bytes16, length-bytes32}
 use Rattle.heartbeat.specs.Beat.{secondsForm, millisecondsForm, greatestSeconds}
@@ -25,7 +24,6 @@ use Rattle.writer.specs.Write.{leastRoom, unwritten, written, offered, s
 use Rattle.frame.proofs.Entries.{entries-few}
 use Rattle.frame.proofs.Headers.{sound-header}
 use Rattle.frame.proofs.Sounds.{sound-at}
-use Rattle.laws.proofs.Conds.{cond-right}
 use Rattle.layout.proofs.Messages.{length-message}
 use Rattle.writer.proofs.Messages.{length-data}
 
@@ -35,13 +33,6 @@ sound-bounds s n e =
     let w = sound-at s n e in
     let h = sound-header s (w .header) in
     omega (arith, w .low, w .high, w .size, h .high)
-
--- a well formed entry's type
-pub well-kind : (kind : ℕ) (e : List ℕ) → wellFormed kind e ≡ true → (kind ≤ response) × (entriesFill 1 kind e ≡ true)
-unfolding wellFormed
-well-kind kind e w =
-    let p = cond-right (ltb response kind) false (entriesFill 1 kind e) true w false≢true in
-    (ltb-false response kind (p .0), p .1)
 
 -- a sound message of entries has few of them
 pub sound-entries : (s : List ℕ) (n : ℕ) → decide s ≡ Sound n → pduType s ≤ response

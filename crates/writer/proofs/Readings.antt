@@ -19,7 +19,7 @@ use Rattle.frame.specs.Entry.{entriesFill, wellFormed}
 use Rattle.frame.specs.Decide.{keepAliveFill, dataSound, decide}
 use Rattle.frame.specs.declared.Decision.{Decision}
 use Rattle.frame.specs.declared.Decision.the-variants.{Undecided, Faulty, Sound}
-use Rattle.frame.proofs.Entries.{entries-few}
+use Rattle.frame.proofs.Entries.{well-kind, entries-few}
 use Rattle.fields.specs.Fields.{heartbeatOf}
 use Rattle.reader.specs.Numbers.{heartbeatNumbers}
 use Rattle.reader.specs.Read.{dataOf, messageOf, readBy, readOf}
@@ -30,7 +30,7 @@ use Rattle.layout.specs.Message.{sizeOf, message, atFront, beatBytes}
 use Rattle.writer.specs.Write.{leastRoom, unwritten, written, offered, startOf, appendSound, appendBy, appendOf, beatFits, keepAliveOf}
 use Rattle.writer.specs.Round.{Made, started, appended, entriesOf, entriesIn, ReadsAs}
 use Rattle.layout.proofs.Messages.{length-message}
-use Rattle.writer.proofs.Outcomes.{sound-entries, well-kind, beat-good}
+use Rattle.writer.proofs.Outcomes.{sound-entries, beat-good}
 use Rattle.writer.proofs.Walks.{fill-append, entries-append, length-entries, entries-index}
 use Rattle.writer.proofs.Heads.{Holds, message-holds}
 

@@ -15,7 +15,7 @@ use Rattle.layout.specs.Message.{message, atFront}
 use Rattle.writer.specs.Write.{startOf, appendOf}
 use Rattle.writer.specs.Round.{Made, started, appended, entriesOf}
 use Rattle.layout.proofs.Messages.{length-message}
-use Rattle.writer.proofs.Outcomes.{well-kind}
+use Rattle.frame.proofs.Entries.{well-kind}
 use Rattle.writer.proofs.Heads.{Holds}
 use Rattle.writer.proofs.Readings.{front-entries, grown-list, start-way, append-way}
 

@@ -2,29 +2,21 @@
 use Prim.Native.Nat.{ℕ, zero, suc, _-_, _≤_, _<_}
 use mathlib.Core.Path.{_≡_, refl, sym, ap, _∙_}
 use mathlib.Core.List.{List, [], _∷_, _++_}
-use mathlib.Core.Bool.{true, false, false≢true}
+use mathlib.Core.Bool.{true}
 use native.Mathlib.Omega.{arith}
 use native.Mathlib.Nat.{not-suc-le-zero}
-use lib.Dec.{ltb}
 use lib.ListN.{length, take, drop, getD, length-append, length-drop, List·getD-append}
 use lib.Seq.{getD-take, length-take-le, take-append-le, drop-append-le, take-length}
 use borrow.Author.Tests.{eq-eqb, ne-eqb, le-ltb, eqb-true}
-use Rattle.laws.proofs.Conds.{cond-right}
 use Rattle.laws.proofs.Parts.{nil-of}
 use Rattle.octets.specs.Numbers.{be32At}
 use Rattle.octets.proofs.Digits.{be32-append, be32-take}
 use Rattle.frame.specs.Entry.{leastEntry, countPlace, leastCount, countFits, entryFits, entrySize, entriesFill}
-use Rattle.frame.proofs.Entries.{EntryAt, entry-at, entries-first, least-holds}
+use Rattle.frame.proofs.Entries.{EntryAt, entry-at, fits-count, size-within, one-size, entries-first, least-holds}
 use Rattle.fields.specs.Place.{entriesFrom, entryBytes}
 use Rattle.writer.specs.Round.{entriesOf}
 
--- the entry check, taken apart and put together
-fits-count : (k size count : ℕ) (part : List ℕ) → entryFits k size count part ≡ true → countFits (leastCount k) count (size - leastEntry k) ≡ true
-unfolding entryFits
-fits-count k size count part e =
-    let p = cond-right (ltb size (leastEntry k)) false _ true e false≢true in
-    cond-right (ltb (length part) (size - leastEntry k)) false _ true (p .1) false≢true .1
-
+-- the entry check, put together
 fits-make : (k size count : ℕ) (part : List ℕ) → leastEntry k ≤ size → size - leastEntry k ≤ length part
     → countFits (leastCount k) count (size - leastEntry k) ≡ true → entryFits k size count part ≡ true
 unfolding entryFits
@@ -41,9 +33,6 @@ size-same k t u w b g h =
     simp (le-ltb (length u) (leastEntry k) (omega (arith, w .low)), b, g, f)
 
 module _ (k : ℕ) (t : List ℕ) (nz : entrySize k t ≡ 0 → ⊥) where
-  pub size-within : entrySize k t ≤ length t
-  size-within = let w = entry-at k t nz in omega (arith, w .size, w .high)
-
   size-append : (e : List ℕ) → entrySize k (t ++ e) ≡ entrySize k t
   size-append e =
       let w = entry-at k t nz in
@@ -68,15 +57,8 @@ module _ (k : ℕ) (t : List ℕ) (nz : entrySize k t ≡ 0 → ⊥) where
   unfolding entriesFill
   one-alone =
       let z = entrySize k t in
-      let l = length-take-le z t size-within in
+      let l = length-take-le z t (size-within k t nz) in
       rw (size-take) (simp (ne-eqb z 0 nz, eq-eqb (length (drop z (take z t))) 0 (omega (arith, length-drop z (take z t)))))
-
--- exactly one entry: its size is its length
-pub one-size : (k : ℕ) (e : List ℕ) → entriesFill 1 k e ≡ true → entrySize k e ≡ length e
-unfolding entriesFill
-one-size k e f =
-    let p = entries-first 0 k e f in
-    omega (arith, size-within k e (p .0), eqb-true (length (drop (entrySize k e) e)) 0 (p .1), length-drop (entrySize k e) e)
 
 pub fill-append : (n k : ℕ) (t e : List ℕ) → entriesFill n k t ≡ true → entriesFill 1 k e ≡ true → entriesFill (suc n) k (t ++ e) ≡ true
 unfolding entriesFill

@@ -2,7 +2,8 @@ use mathlib.Core.Path.{sym, _∙_}
 use native.Mathlib.Omega.{arith}
 use Rattle.laws.proofs.Conds.{and-left}
 use borrow.Author.Tests.{not-true, not-false}
-use Rattle.writer.proofs.Outcomes.{sound-bounds, sound-few, well-kind, append-other, append-bad, append-long, append-done}
+use Rattle.frame.proofs.Entries.{well-kind}
+use Rattle.writer.proofs.Outcomes.{sound-bounds, sound-few, append-other, append-bad, append-long, append-done}
 use borrow.Author.Needs.{needs}
 use Rattle.writer.proofs.append_sound.Statement.{statement}
 use Rattle.writer.proofs.append_sound.Tie as tie
