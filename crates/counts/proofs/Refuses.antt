@@ -1,0 +1,144 @@
+-- A message with a count without bytes has fault 6, and what each call makes of it. Assumes nothing.
+use Prim.Native.Nat.{ℕ, _+_, _-_, _≤_}
+use mathlib.Core.Path.{_≡_, refl, sym, ap, _∙_}
+use mathlib.Core.Bool.{Bool, true, false, cond, _&&_}
+use mathlib.Core.List.{List, [], _∷_, _++_}
+use native.Mathlib.Omega.{arith}
+use native.Mathlib.Nat.{zero-add}
+use lib.Dec.{eqb}
+use lib.ListN.{length, take, drop, length-drop}
+use lib.Seq.{length-take-le}
+use borrow.Author.Tests.{ne-eqb, le-ltb}
+use Rattle.laws.proofs.Parts.{nil-of}
+use Rattle.numbers.specs.Refusal.{fault, badEntry}
+use Rattle.numbers.specs.Fault.{faultData}
+use Rattle.frame.specs.Limits.{headerEnd, keepAlive}
+use Rattle.frame.specs.Header.{pduType, messageCount, messageLength}
+use Rattle.frame.specs.Entry.{leastEntry, entrySize, entriesFill, wellFormed}
+use Rattle.frame.specs.Decide.{dataSound, decideData, decide}
+use Rattle.frame.specs.declared.Decision.{Decision}
+use Rattle.frame.specs.declared.Decision.the-variants.{Faulty, Sound}
+use Rattle.frame.proofs.Counts.{count-tells}
+use Rattle.frame.proofs.Headers.{sound-header}
+use Rattle.frame.proofs.Ways.{whole, way-back}
+use Rattle.frame.proofs.Sounds.{type-take, count-take}
+use Rattle.fields.proofs.Places.{entries-get}
+use Rattle.reader.specs.Read.{dataOf, readBy, readOf}
+use Rattle.reader.specs.Entry.{entryBy, entryOf, partBy, partOf}
+use Rattle.writer.specs.Numbers.{Writing, writtenNumbers}
+use Rattle.writer.specs.Write.{leastRoom, unwritten, startOf, appendSound, appendOf}
+use Rattle.writer.proofs.Outcomes.{append-sound, append-fault}
+use Rattle.area.specs.Area.{undecidedOf}
+use Rattle.replies.specs.Bytes.{leastOutput}
+use Rattle.delivery.specs.Intake.{deliveredBy, takenIn}
+use Rattle.endpoint.specs.State.{closedState}
+use Rattle.endpoint.specs.Deliver.{heldAt, withIntake, deliverCall}
+use Rattle.endpoint.specs.declared.Record.{Record}
+use Rattle.split.specs.Split.{soundMessages}
+use Rattle.lines.specs.Text.{stopLine}
+use Rattle.lister.specs.Listing.{linesOf, lastBy, lastLine, listedBytes, unlisted, listingFrom, listing}
+use Rattle.counts.specs.Announced.{Announced, bytesFrom, Announces}
+use Rattle.counts.specs.Refused.{Delivers, behindFault, closedForData, CountWithoutBytes}
+
+-- ---- the message
+module _ (s : List ℕ) (i : ℕ) (a : Announces s i) where
+  abbrev size : ℕ
+  size = messageLength s
+
+  low : headerEnd ≤ size
+  low = omega (arith, sound-header s (a .header) .low)
+
+  entries-short : entriesFill (messageCount s) (pduType s) (dataOf s size) ≡ false
+  entries-short = go (entriesFill (messageCount s) (pduType s) (dataOf s size)) refl
+    where
+      none : entrySize (pduType s) (bytesFrom s i) ≡ 0
+      none = count-tells .announced (pduType s) (bytesFrom s i) (a .size) (a .count)
+
+      go : (b : Bool) → entriesFill (messageCount s) (pduType s) (dataOf s size) ≡ b → b ≡ false
+      go true e = absurd (entries-get i (messageCount s) (pduType s) (dataOf s size) (a .there) e none)
+      go false e = refl
+
+  data-short : dataSound (pduType s) (messageCount s) (dataOf s size) ≡ false
+  unfolding dataSound
+  data-short = simp (ne-eqb (pduType s) keepAlive (λ q. omega (arith, a .type)), entries-short)
+
+  pub decided : decide s ≡ Faulty faultData size
+  unfolding decideData
+  decided =
+      let w = take size s in
+      let d : dataSound (pduType w) (messageCount w) (drop headerEnd w) ≡ false =
+      rw (type-take size s low, count-take size s low) data-short in
+      way-back s (decideData w) (whole (a .first) (omega (arith, low, a .whole)) (a .header) (a .whole))
+      ∙ simp d (ap (Faulty faultData) (length-take-le size s (a .whole)))
+
+  read : readOf s ≡ fault ∷ faultData ∷ []
+  unfolding readOf readBy
+  read = ap (λ (d : Decision). readBy d s) decided
+
+  entry-read : (j : ℕ) → entryOf s j ≡ fault ∷ faultData ∷ []
+  unfolding entryOf entryBy
+  entry-read j = ap (λ (d : Decision). entryBy d s j) decided
+
+  part-read : (j : ℕ) → partOf s j ≡ []
+  unfolding partOf partBy
+  part-read j = ap (λ (d : Decision). partBy d s j) decided
+
+-- ---- the writer
+unformed : (kind : ℕ) (e : List ℕ) → Announced kind e → wellFormed kind e ≡ false
+unformed kind e a = go (wellFormed kind e) refl
+  where
+    empty : drop (leastEntry kind) e ≡ []
+    empty = nil-of (drop (leastEntry kind) e) (omega (arith, length-drop (leastEntry kind) e, a .long))
+
+    go : (b : Bool) → wellFormed kind e ≡ b → b ≡ false
+    go true w = absurd (omega (arith, count-tells .tells kind e w .1 empty, a .count))
+    go false w = refl
+
+started : (buf : List ℕ) (kind : ℕ) (e : List ℕ) → leastRoom ≤ length buf → Announced kind e → startOf buf kind e ≡ unwritten badEntry buf
+unfolding startOf
+started buf kind e room a = simp (le-ltb (length buf) leastRoom room, unformed kind e a)
+
+appended : (buf : List ℕ) (kind : ℕ) (e : List ℕ) (n : ℕ) → leastRoom ≤ length buf → decide buf ≡ Sound n → Announced kind e
+    → appendOf buf kind e ≡ unwritten badEntry buf
+unfolding appendSound
+appended buf kind e n room d a = sym (append-sound buf kind e room n d) ∙ rw (unformed kind e a) (go (eqb kind (pduType buf)) _)
+  where
+    go : (b : Bool) (x : Writing) → cond (b && false) x (unwritten badEntry buf) ≡ unwritten badEntry buf
+    go true x = refl
+    go false x = refl
+
+behind : (buf : List ℕ) (kind : ℕ) (e : List ℕ) (i : ℕ) → leastRoom ≤ length buf → Announces buf i → appendOf buf kind e ≡ behindFault buf
+unfolding writtenNumbers
+behind buf kind e i room a = sym (append-fault buf kind e room faultData (messageLength buf) (decided buf i a))
+
+-- ---- the delivery
+delivered : (r : Record) (area : List ℕ) (n : ℕ) (piece out : List ℕ) (i : ℕ) → Delivers r area n out
+    → Announces (undecidedOf area n (heldAt r n) ++ piece) i
+    → deliverCall r area n piece out
+    ≡ closedForData r area n (messageLength (undecidedOf area n (heldAt r n) ++ piece) - heldAt r n) out
+unfolding deliverCall takenIn deliveredBy closedState
+delivered r area n piece out i d a =
+    let bytes = undecidedOf area n (heldAt r n) ++ piece in
+    simp (d .obeying, d .lying, d .living, le-ltb (length out) leastOutput (d .roomy))
+    (ap (λ (x : Decision). withIntake r n (deliveredBy x (r .device) area n (heldAt r n) piece bytes out)) (decided bytes i a))
+
+-- ---- the listing
+listed : (s : List ℕ) (i : ℕ) → Announces (unlisted s) i → listing s ≡ linesOf 0 (soundMessages s) ++ stopLine (listedBytes s) faultData
+unfolding listing listingFrom lastLine lastBy
+listed s i a =
+    ap (λ (d : Decision). linesOf 0 (soundMessages s) ++ lastBy d (0 + listedBytes s) (length (unlisted s))) (decided (unlisted s) i a)
+    ∙ rw zero-add
+
+pub count-without-bytes : CountWithoutBytes
+count-without-bytes =
+    record {
+      decided = decided;
+      message = read;
+      entry = λ s i j a. entry-read s i a j;
+      part = λ s i j a. part-read s i a j;
+      started = started;
+      appended = appended;
+      behind = behind;
+      delivered = delivered;
+      listed = listed;
+    }

@@ -1,0 +1,4 @@
+pub mod Announced
+pub mod Refused
+pub mod Told
+pub mod Worked

@@ -1,0 +1,68 @@
+-- A count without bytes is refused by the reader, the writer, a delivery and the listing: R12, R16, R19 to R26, R30, R79 together.
+use Prim.Native.Nat.{ℕ, _-_, _≤_}
+use mathlib.Core.Path.{_≡_}
+use mathlib.Core.Bool.{true}
+use mathlib.Core.List.{List, [], _∷_, _++_}
+use lib.ListN.{length}
+use Rattle.numbers.specs.Refusal.{fault, badEntry}
+use Rattle.numbers.specs.Fault.{faultData}
+use Rattle.answers.specs.Numbers.{deliveryNumbers}
+use Rattle.answers.specs.declared.Delivery.the-variants.{Closed}
+use Rattle.frame.specs.Header.{messageLength}
+use Rattle.frame.specs.Decide.{decide}
+use Rattle.frame.specs.declared.Decision.the-variants.{Faulty, Sound}
+use Rattle.reader.specs.Read.{readOf}
+use Rattle.reader.specs.Entry.{entryOf, partOf}
+use Rattle.writer.specs.Numbers.{Writing}
+use Rattle.writer.specs.Write.{leastRoom, unwritten, startOf, appendOf}
+use Rattle.area.specs.Area.{areaSound, undecidedOf, partCleared}
+use Rattle.connection.specs.State.{liveAt}
+use Rattle.replies.specs.Bytes.{leastOutput}
+use Rattle.endpoint.specs.State.{recordObeys, closedState}
+use Rattle.endpoint.specs.Outcome.{Outcome, outcome}
+use Rattle.endpoint.specs.Deliver.{heldAt, deliverCall}
+use Rattle.endpoint.specs.declared.Record.{Record}
+use Rattle.split.specs.Split.{soundMessages}
+use Rattle.lines.specs.Text.{stopLine}
+use Rattle.lister.specs.Listing.{linesOf, listedBytes, unlisted, listing}
+use Rattle.counts.specs.Announced.{Announced, Announces}
+
+-- R63. Nothing refuses a delivery to connection n: rows 1 to 4 do not apply.
+pub record Delivers (r : Record) (area : List ℕ) (n : ℕ) (out : List ℕ) : Type 0 where
+  pub obeying : recordObeys r ≡ true
+  pub lying : areaSound (r .held) area ≡ true
+  pub living : liveAt (r .device .connections) n ≡ true
+  pub roomy : leastOutput ≤ length out
+
+-- R26, R65. An append behind a message with fault 6: refusal 8 with it, and the buffer as it was.
+abbrev pub behindFault : List ℕ → Writing
+behindFault buf = record { answer = fault ∷ faultData ∷ []; buffer = buf }
+
+-- R30. The closure of connection n for fault 6: its record and area are those of the host's close, and no output is written.
+abbrev pub closedForData : Record → List ℕ → ℕ → ℕ → List ℕ → Outcome
+closedForData r area n taken out = outcome (deliveryNumbers (Closed taken faultData)) (closedState r n) (partCleared area n) out
+
+-- Theorem. An entry that announces parameters and has no byte of them is refused, by fault 6 when read and by 11 when written.
+pub record CountWithoutBytes : Type 0 where
+  -- the message's last byte decides
+  pub decided : (s : List ℕ) (i : ℕ) → Announces s i → decide s ≡ Faulty faultData (messageLength s)
+  -- the reader: 8 with fault 6, whichever entry is asked for, and no part
+  pub message : (s : List ℕ) (i : ℕ) → Announces s i → readOf s ≡ fault ∷ faultData ∷ []
+  pub entry : (s : List ℕ) (i j : ℕ) → Announces s i → entryOf s j ≡ fault ∷ faultData ∷ []
+  pub part : (s : List ℕ) (i j : ℕ) → Announces s i → partOf s j ≡ []
+  -- the writer: 11 for the entry, in a new message or behind a sound one, and the buffer as it was
+  pub started : (buf : List ℕ) (kind : ℕ) (e : List ℕ) → leastRoom ≤ length buf → Announced kind e
+      → startOf buf kind e ≡ unwritten badEntry buf
+  pub appended : (buf : List ℕ) (kind : ℕ) (e : List ℕ) (n : ℕ) → leastRoom ≤ length buf → decide buf ≡ Sound n → Announced kind e
+      → appendOf buf kind e ≡ unwritten badEntry buf
+  -- and nothing is appended to a message that has one
+  pub behind : (buf : List ℕ) (kind : ℕ) (e : List ℕ) (i : ℕ) → leastRoom ≤ length buf → Announces buf i
+      → appendOf buf kind e ≡ behindFault buf
+  -- a delivery, however the message was cut: the piece with its last byte closes the connection, and no command of it is run
+  pub delivered : (r : Record) (area : List ℕ) (n : ℕ) (piece out : List ℕ) (i : ℕ) → Delivers r area n out
+      → Announces (undecidedOf area n (heldAt r n) ++ piece) i
+      → deliverCall r area n piece out
+      ≡ closedForData r area n (messageLength (undecidedOf area n (heldAt r n) ++ piece) - heldAt r n) out
+  -- the listing: the lines of the sound messages before it, and where it stops
+  pub listed : (s : List ℕ) (i : ℕ) → Announces (unlisted s) i
+      → listing s ≡ linesOf 0 (soundMessages s) ++ stopLine (listedBytes s) faultData

@@ -1,0 +1,76 @@
+-- R12, R83. Messages with a count that does not go with its bytes, each beside one that does: one table.
+use Prim.Native.Nat.{ℕ}
+use mathlib.Core.Path.{_≡_}
+use mathlib.Core.List.{List, [], _∷_, _++_, map}
+use Rattle.reader.specs.Examples.{Example, worked}
+
+-- R9. The fields of a lock of 4097 with handle 7, behind its size, with that parameter count.
+abbrev pub lockCounting : ℕ → List ℕ
+lockCounting count =
+    0x00 ∷ 0x00 ∷ 0x00 ∷ 0x11 ∷ 0x00 ∷ 0x00 ∷ 0x00 ∷ 0x07 ∷ 0x00 ∷ 0x00 ∷ 0x10 ∷ 0x01 ∷ 0x00 ∷ 0x01 ∷ 0x00 ∷ 0x03 ∷ count ∷ []
+
+-- R9. A set of 4097 with handle 7: one parameter, and its byte.
+abbrev pub setToMuted : List ℕ
+setToMuted =
+    0x00 ∷ 0x00 ∷ 0x00 ∷ 0x12 ∷ 0x00 ∷ 0x00 ∷ 0x00 ∷ 0x07 ∷ 0x00 ∷ 0x00 ∷ 0x10 ∷ 0x01 ∷ 0x00 ∷ 0x04 ∷ 0x00 ∷ 0x02 ∷ 0x01
+    ∷ 0x01 ∷ []
+
+-- R9. A response to handle 7 of that size, with status 0, that count and these parameters.
+abbrev pub responseCounting : ℕ → ℕ → List ℕ → List ℕ
+responseCounting size count part =
+    0x00 ∷ 0x00 ∷ 0x00 ∷ size ∷ 0x00 ∷ 0x00 ∷ 0x00 ∷ 0x07 ∷ 0x00 ∷ count ∷ part
+
+-- R9. A notification of that size to object 9, method 3.1, from 4097, event 1.1, with that count and these event parameters.
+abbrev pub notificationCounting : ℕ → ℕ → List ℕ → List ℕ
+notificationCounting size count part =
+    0x00 ∷ 0x00 ∷ 0x00 ∷ size ∷ 0x00 ∷ 0x00 ∷ 0x00 ∷ 0x09 ∷ 0x00 ∷ 0x03 ∷ 0x00 ∷ 0x01 ∷ count ∷ 0x01 ∷ 0x02 ∷ 0x03 ∷ 0x04
+    ∷ 0x00 ∷ 0x00 ∷ 0x10 ∷ 0x01 ∷ 0x00 ∷ 0x01 ∷ 0x00 ∷ 0x01 ∷ part
+
+-- R7. A header with that pduSize, type and messageCount, and the data behind it.
+abbrev pub framedBy : ℕ → ℕ → ℕ → List ℕ → List ℕ
+framedBy size kind count body = 0x3B ∷ 0x00 ∷ 0x01 ∷ 0x00 ∷ 0x00 ∷ 0x00 ∷ size ∷ kind ∷ 0x00 ∷ count ∷ body
+
+-- R19, R20, R21. A row of a message that is refused: 8 with fault 6, for the message and its entry 0, and no part.
+abbrev pub refusedRow : List ℕ → Example
+refusedRow bytes = record { bytes = bytes; reads = 8 ∷ 6 ∷ []; first = 8 ∷ 6 ∷ []; part = [] }
+
+-- R12, R83. Commands of both types, a command behind a sound one, responses and notifications.
+abbrev pub countRows : List Example
+countRows =
+    refusedRow (framedBy 0x1A 0x01 0x01 (lockCounting 1))
+    ∷ refusedRow (framedBy 0x1A 0x00 0x01 (lockCounting 255))
+    ∷ refusedRow (framedBy 0x2C 0x01 0x02 (setToMuted ++ lockCounting 1))
+    ∷ record {
+      bytes = framedBy 0x2C 0x01 0x02 (setToMuted ++ lockCounting 0);
+      reads = 0 ∷ 45 ∷ 1 ∷ 2 ∷ [];
+      first = 0 ∷ 0 ∷ 7 ∷ 4097 ∷ 4 ∷ 2 ∷ 1 ∷ [];
+      part = 0x01 ∷ [];
+    }
+    ∷ refusedRow (framedBy 0x13 0x03 0x01 (responseCounting 0x0A 1 []))
+    ∷ record {
+      bytes = framedBy 0x14 0x03 0x01 (responseCounting 0x0B 1 (0x02 ∷ []));
+      reads = 0 ∷ 21 ∷ 3 ∷ 1 ∷ [];
+      first = 0 ∷ 3 ∷ 7 ∷ 0 ∷ 1 ∷ [];
+      part = 0x02 ∷ [];
+    }
+    ∷ refusedRow (framedBy 0x14 0x03 0x01 (responseCounting 0x0B 0 (0x02 ∷ [])))
+    ∷ refusedRow (framedBy 0x22 0x02 0x01 (notificationCounting 0x19 2 []))
+    ∷ record {
+      bytes = framedBy 0x23 0x02 0x01 (notificationCounting 0x1A 2 (0x00 ∷ []));
+      reads = 0 ∷ 36 ∷ 2 ∷ 1 ∷ [];
+      first = 0 ∷ 2 ∷ 9 ∷ 3 ∷ 1 ∷ 2 ∷ 0x01020304 ∷ 4097 ∷ 1 ∷ 1 ∷ [];
+      part = 0x00 ∷ [];
+    }
+    ∷ refusedRow (framedBy 0x23 0x02 0x01 (notificationCounting 0x1A 1 (0x00 ∷ [])))
+    ∷ record {
+      bytes = framedBy 0x22 0x02 0x01 (notificationCounting 0x19 1 []);
+      reads = 0 ∷ 35 ∷ 2 ∷ 1 ∷ [];
+      first = 0 ∷ 2 ∷ 9 ∷ 3 ∷ 1 ∷ 1 ∷ 0x01020304 ∷ 4097 ∷ 1 ∷ 1 ∷ [];
+      part = [];
+    }
+    ∷ refusedRow (framedBy 0x22 0x02 0x01 (notificationCounting 0x19 0 []))
+    ∷ []
+
+-- Theorem. Every row is worked out as it stands.
+abbrev pub CountsRead : Type 0
+CountsRead = map worked countRows ≡ countRows
