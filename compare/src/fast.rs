@@ -496,7 +496,7 @@ fn entries_are_sound(kind: u8, count: u16, data: &[u8]) -> bool {
             return false;
         }
         let given = rest[place];
-        if given < bare || (given == bare && size != least) {
+        if given < bare || (given == bare) != (size == least) {
             return false;
         }
         rest = &rest[size..];

@@ -1,8 +1,8 @@
 //! An independent second program of the device endpoint, and the harness that
 //! compares it with the library call by call.
 //!
-//! The second program is written from the scope paper and the request for reset
-//! by key alone, in the plainest way, so that a slip in either program shows as a
+//! The second program is written from the scope paper and the requests that
+//! landed alone, in the plainest way, so that a slip in either program shows as a
 //! difference.
 
 #![deny(unsafe_code)]

@@ -1,5 +1,5 @@
-//! The scope paper's bench examples and rules, and those of reset by key, run
-//! on the second program.
+//! The scope paper's bench examples and rules, and those of the requests that
+//! landed, run on the second program.
 
 use compare::answer::{CLOSED, KEEP_ALIVE, MESSAGE, MORE, NOTIFICATION};
 use compare::engine::Engine;
@@ -404,10 +404,11 @@ fn statuses_come_in_their_order() {
     assert_eq!(bench.status(0, 4, (3, 14), 0, &[]), 11);
     assert_eq!(bench.status(0, 4_097, (3, 1), 0, &[]), 11);
     assert_eq!(bench.status(0, 1, (3, 14), 7, &[1, 2]), 4);
-    assert_eq!(bench.status(0, 4, (1, 3), 7, &[]), 8);
+    assert_eq!(bench.status(0, 4, (1, 3), 7, &[1]), 8);
     assert_eq!(bench.status(0, 1, (1, 4), 0, &[]), 8);
-    assert_eq!(bench.status(0, 1, (1, 1), 1, &[]), 4);
-    assert_eq!(bench.status(0, 4_097, (4, 2), 1, &[]), 4);
+    assert_eq!(bench.status(0, 1, (1, 1), 1, &[1]), 4);
+    assert_eq!(bench.status(0, 4_097, (4, 2), 0, &[]), 4);
+    assert_eq!(bench.status(0, 4_097, (4, 2), 1, &[1, 1]), 4);
     assert_eq!(bench.status(0, 4_097, (4, 2), 2, &[1]), 4);
     assert_eq!(bench.status(0, 4_097, (4, 2), 1, &[3]), 7);
     let mut pair = adding(1, 9, 0);
@@ -547,6 +548,133 @@ fn the_listing_prints_the_sample() {
     input.push(0);
     assert_eq!(list(&input), "0 4 1 11\n12 1 1 26\n39 stop 1\n");
     assert_eq!(list(&[]), "0 end\n");
+}
+
+/// Messages of one entry, in pairs: one whose count and bytes agree, and one whose do not.
+const COUNTED: [(&str, &str); 8] = [
+    // Get of mute 4097: count 0, and count 1 without a byte.
+    (
+        "3B 00 01 00 00 00 1A 01 00 01 00 00 00 11 00 00 00 07 00 00 10 01 00 04 00 01 00",
+        "3B 00 01 00 00 00 1A 01 00 01 00 00 00 11 00 00 00 07 00 00 10 01 00 04 00 01 01",
+    ),
+    // Set of mute 4097, without reply: count 1 with a byte, and without.
+    (
+        "3B 00 01 00 00 00 1B 00 00 01 00 00 00 12 00 00 00 07 00 00 10 01 00 04 00 02 01 01",
+        "3B 00 01 00 00 00 1A 00 00 01 00 00 00 11 00 00 00 07 00 00 10 01 00 04 00 02 01",
+    ),
+    // Get: count 1 with a byte, which gives status 4, and count 0 with one.
+    (
+        "3B 00 01 00 00 00 1B 01 00 01 00 00 00 12 00 00 00 07 00 00 10 01 00 04 00 01 01 09",
+        "3B 00 01 00 00 00 1B 01 00 01 00 00 00 12 00 00 00 07 00 00 10 01 00 04 00 01 00 09",
+    ),
+    // Response: count 0, and count 1 without a byte.
+    (
+        "3B 00 01 00 00 00 13 03 00 01 00 00 00 0A 00 00 00 07 00 00",
+        "3B 00 01 00 00 00 13 03 00 01 00 00 00 0A 00 00 00 07 00 01",
+    ),
+    // Response: count 1 with a byte, and count 0 with one.
+    (
+        "3B 00 01 00 00 00 14 03 00 01 00 00 00 0B 00 00 00 07 00 01 02",
+        "3B 00 01 00 00 00 14 03 00 01 00 00 00 0B 00 00 00 07 00 00 02",
+    ),
+    // Notification: count 1, and count 2 without a byte.
+    (
+        "3B 00 01 00 00 00 22 02 00 01 00 00 00 19 00 00 00 09 00 03 00 01 01 \
+         01 02 03 04 00 00 10 01 00 01 00 01",
+        "3B 00 01 00 00 00 22 02 00 01 00 00 00 19 00 00 00 09 00 03 00 01 02 \
+         01 02 03 04 00 00 10 01 00 01 00 01",
+    ),
+    // Notification: count 2 with a byte, and count 1 with one.
+    (
+        "3B 00 01 00 00 00 23 02 00 01 00 00 00 1A 00 00 00 09 00 03 00 01 02 \
+         01 02 03 04 00 00 10 01 00 01 00 01 00",
+        "3B 00 01 00 00 00 23 02 00 01 00 00 00 1A 00 00 00 09 00 03 00 01 01 \
+         01 02 03 04 00 00 10 01 00 01 00 01 00",
+    ),
+    // Notification: count 255 with a byte, and without.
+    (
+        "3B 00 01 00 00 00 23 02 00 01 00 00 00 1A 00 00 00 09 00 03 00 01 FF \
+         01 02 03 04 00 00 10 01 00 01 00 01 00",
+        "3B 00 01 00 00 00 22 02 00 01 00 00 00 19 00 00 00 09 00 03 00 01 FF \
+         01 02 03 04 00 00 10 01 00 01 00 01",
+    ),
+];
+
+#[test]
+fn counts_and_bytes_have_to_agree_when_reading() {
+    for (sound, faulty) in COUNTED {
+        let (sound, faulty) = (hex(sound), hex(faulty));
+        let reading = Second.read_message(&sound);
+        assert_eq!((reading.number, reading.length), (0, sound.len()));
+        assert_eq!(Second.read_entry(&sound, 0).number, 0);
+        let reading = Second.read_message(&faulty);
+        assert_eq!((reading.number, reading.fault), (8, 6));
+        let entry = Second.read_entry(&faulty, 0);
+        assert_eq!((entry.number, entry.fault), (8, 6));
+        assert_eq!(Second.entry_part(&faulty, 0), Default::default());
+        let (kind, size) = (sound[7], sound[6]);
+        let listed = format!("0 {kind} 1 {size}\n{} stop 6\n", sound.len());
+        assert_eq!(list(&[sound.clone(), faulty, sound].concat()), listed);
+    }
+}
+
+#[test]
+fn counts_and_bytes_have_to_agree_when_writing() {
+    for (sound, faulty) in COUNTED {
+        let (sound, faulty) = (hex(sound), hex(faulty));
+        let kind = sound[7];
+        let mut buffer = vec![9; 2_049];
+        assert_eq!(Second.start(&mut buffer, kind, &faulty[10..]).number, 11);
+        assert_eq!(buffer, [9; 2_049]);
+        let written = Second.start(&mut buffer, kind, &sound[10..]);
+        assert_eq!((written.number, written.length), (0, sound.len()));
+        assert_eq!(buffer[..sound.len()], sound);
+        assert_eq!(Second.append(&mut buffer, kind, &faulty[10..]).number, 11);
+        assert_eq!(Second.append(&mut buffer, kind, &sound[10..]).number, 0);
+        buffer[..faulty.len()].copy_from_slice(&faulty);
+        let written = Second.append(&mut buffer, kind, &sound[10..]);
+        assert_eq!((written.number, written.fault), (8, 6));
+        assert_eq!(buffer[..faulty.len()], faulty);
+    }
+}
+
+#[test]
+fn a_count_without_bytes_closes_and_runs_nothing() {
+    for (sound, faulty) in COUNTED {
+        let (sound, faulty) = (hex(sound), hex(faulty));
+        let length = faulty.len();
+        for cut in 0..length {
+            let mut bench = Bench::open(2);
+            assert_eq!(bench.status(1, 4_098, (1, 3), 0, &[]), 0);
+            bench.send(0, &hex(LOCK));
+            bench.send(0, &sound);
+            let before = bench.record.device;
+            assert_eq!(bench.deliver(0, &faulty[..cut]), (MORE, 0, cut, vec![]));
+            let answer = bench.deliver(0, &faulty[cut..]);
+            assert_eq!(answer, (CLOSED, 6, length - cut, vec![]));
+            let after = bench.record.device;
+            assert!(!after.connections[0].live && after.connections[1].live);
+            assert_eq!(after.mutes, before.mutes);
+            assert_eq!((after.holders[0], after.holders[1]), (0, 2));
+        }
+    }
+    // The first of two commands is sound, and still is not run.
+    let mut bench = Bench::open(1);
+    let entries = [
+        command(1, 4_097, (4, 2), 1, &[1]),
+        command(2, 4_098, (4, 2), 1, &[]),
+    ];
+    let (kind, fault, _, reply) = bench.deliver(0, &wire::message(1, &entries));
+    assert_eq!((kind, fault, reply), (CLOSED, 6, vec![]));
+    assert_eq!(bench.record.device.mutes, [2; 8]);
+}
+
+#[test]
+fn a_wrong_count_with_bytes_is_a_status() {
+    let mut bench = Bench::open(1);
+    let (asked, _) = COUNTED[2];
+    let reply = hex("3B 00 01 00 00 00 13 03 00 01 00 00 00 0A 00 00 00 07 04 00");
+    assert_eq!(bench.send(0, &hex(asked)), reply);
 }
 
 const KEY: [u8; 16] = [7, 1, 2, 3, 4, 5, 6, 7, 8, 9, 10, 11, 12, 13, 14, 15];
@@ -769,7 +897,7 @@ fn statuses_of_setting_the_key_come_in_their_order() {
         (1, &right[..]),
         (3, &right),
         (2, &right[..28]),
-        (2, &[]),
+        (2, &right[..1]),
         (0, &[]),
     ] {
         assert_eq!(bench.status(0, 1, (3, 14), count, bytes), 4);

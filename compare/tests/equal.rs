@@ -1,8 +1,11 @@
-//! Programs that have to agree, compared over the gate's runs.
+//! Programs that have to agree, compared over the gate's runs, and messages
+//! that have to be what their makers say.
 
 use compare::engine::Engine;
 use compare::fast::Fast;
 use compare::harness::gate;
+use compare::harness::random::Random;
+use compare::harness::traffic;
 use compare::second::Second;
 
 /// The comparison finds nothing, and exercises all it has to.
@@ -27,4 +30,18 @@ fn the_fast_delivery_agrees_with_the_second_program() {
 #[test]
 fn the_library_agrees_with_the_second_program() {
     agree(&compare::ours::Ours);
+}
+
+#[test]
+fn messages_said_to_be_sound_are_sound() {
+    let mut random = Random::new(5);
+    for _ in 0..20_000 {
+        let sound = traffic::any_message(&mut random);
+        assert_eq!(Second.read_message(&sound).number, 0, "{sound:?}");
+        let faulty = traffic::count_without_bytes(&mut random);
+        assert_eq!(Second.read_message(&faulty).fault, 6, "{faulty:?}");
+    }
+    for sound in traffic::samples() {
+        assert_eq!(Second.read_message(&sound).number, 0, "{sound:?}");
+    }
 }

@@ -4,6 +4,8 @@
 use compare::harness::listings::{self, Feed, Input};
 use compare::second::wire::{self, Judgement};
 
+mod older;
+
 const ROOM: usize = 16_000;
 
 #[derive(Clone, Copy, Debug, PartialEq, Eq)]
@@ -24,11 +26,14 @@ enum Slip {
     PartForEnd,
     PartCountsTheRead,
     StopsAtAShortRead,
+    TakesACountWithoutBytes,
+    TakesAResponseWithoutBytes,
+    ListsTheFaultyMessage,
 }
 
 use Slip::*;
 
-const ALL: [Slip; 15] = [
+const ALL: [Slip; 18] = [
     OffsetFromOne,
     HeldBeforeRead,
     StopsBehindTheFirst,
@@ -44,7 +49,22 @@ const ALL: [Slip; 15] = [
     PartForEnd,
     PartCountsTheRead,
     StopsAtAShortRead,
+    TakesACountWithoutBytes,
+    TakesAResponseWithoutBytes,
+    ListsTheFaultyMessage,
 ];
+
+/// What the bytes held come to, for a program that may take more.
+fn judged(held: &[u8], slip: Slip) -> Judgement {
+    let takes: older::Takes = match slip {
+        TakesACountWithoutBytes => older::without_bytes,
+        TakesAResponseWithoutBytes => {
+            |kind, count, length| kind == 3 && older::without_bytes(kind, count, length)
+        }
+        _ => |_, _, _| false,
+    };
+    wire::judge(&older::message(takes, held))
+}
 
 /// The reads that the input comes in, an empty one behind them.
 fn reads(input: &Input) -> Vec<Vec<u8>> {
@@ -78,7 +98,7 @@ fn slipped(input: &Input, slip: Slip) -> String {
             } else {
                 offset
             };
-            match wire::judge(&held) {
+            match judged(&held, slip) {
                 Judgement::Sound { length } => {
                     let header = wire::header(&held);
                     let (kind, count) = (u32::from(header.kind), u32::from(header.count));
@@ -101,6 +121,11 @@ fn slipped(input: &Input, slip: Slip) -> String {
                         held.remove(0);
                         offset += 1;
                         continue;
+                    }
+                    if slip == ListsTheFaultyMessage && fault == 6 {
+                        let header = wire::header(&held);
+                        text +=
+                            &format!("{shown} {} {} {}\n", header.kind, header.count, header.size);
                     }
                     if slip != NoLastLine {
                         text += &format!("{shown} stop {fault}\n");

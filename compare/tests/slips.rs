@@ -12,8 +12,11 @@ use compare::engine::Engine;
 use compare::harness::gate;
 use compare::harness::reset::{SENTINEL, asking};
 use compare::harness::traffic::framed;
-use compare::record::{AREA, Mechanism, Record};
+use compare::record::{AREA, Device, Mechanism, Record};
 use compare::second::{Second, address, rules};
+use std::ops::Range;
+
+mod older;
 
 // one list, so that no slip is named and not tried
 macro_rules! slips {
@@ -79,7 +82,14 @@ slips! {
     HighestEntryFirst,
     TakeKeepsQuiet,
     ReaderLooksBehind,
-    CountWithoutBytesFaulty,
+    CountWithoutBytesTaken,
+    ReaderTakesCountWithoutBytes,
+    DeliveryTakesCountWithoutBytes,
+    WriterTakesCountWithoutBytes,
+    ResponseWithoutBytesTaken,
+    NotificationOfTwoWithoutBytesTaken,
+    NotificationOfOneWithBytesTaken,
+    RunsBeforeACountWithoutBytes,
     StatusAndCountSwapped,
     KeepAliveHasAnEntry,
     PartFromTheEntry,
@@ -151,6 +161,32 @@ fn a_clock_that_matters_is_found_where_both_programs_have_it() {
             difference.reason, "ticks do not come to the one of all their steps",
             "{slip:?}"
         );
+    }
+}
+
+/// Whoever takes a count without bytes, or runs what stands before one, with what is told of it; and a part that
+/// goes on behind its entry.
+const COUNTS_AND_BYTES: [(Slip, &str); 9] = [
+    (CountWithoutBytesTaken, READING),
+    (ReaderTakesCountWithoutBytes, READING),
+    (DeliveryTakesCountWithoutBytes, DELIVERY),
+    (WriterTakesCountWithoutBytes, WRITING),
+    (ResponseWithoutBytesTaken, READING),
+    (NotificationOfTwoWithoutBytesTaken, READING),
+    (NotificationOfOneWithBytesTaken, READING),
+    (RunsBeforeACountWithoutBytes, DELIVERY),
+    (PartToTheEndOfTheMessage, PART),
+];
+const READING: &str = "a message is not read as its counts and bytes say";
+const DELIVERY: &str = "a delivery is not what the counts and bytes say";
+const WRITING: &str = "an entry is not written as its count and bytes say";
+const PART: &str = "an entry's count and part do not agree";
+
+#[test]
+fn a_count_without_bytes_is_found_where_both_programs_take_it() {
+    for (slip, reason) in COUNTS_AND_BYTES {
+        let difference = gate::gate(&Slipping(slip), &Slipping(slip)).expect_err("a slip");
+        assert_eq!(difference.reason, reason, "{slip:?}");
     }
 }
 
@@ -325,6 +361,85 @@ impl Slipping {
     fn is(&self, slip: Slip) -> bool {
         self.0 == slip
     }
+
+    /// Which entries all calls of the program take that are not well formed.
+    fn takes(&self) -> older::Takes {
+        match self.0 {
+            CountWithoutBytesTaken => older::without_bytes,
+            ResponseWithoutBytesTaken => {
+                |kind, count, length| kind == 3 && older::without_bytes(kind, count, length)
+            }
+            NotificationOfTwoWithoutBytesTaken => {
+                |kind, count, length| (kind, count, length) == (2, 2, 0)
+            }
+            NotificationOfOneWithBytesTaken => {
+                |kind, count, length| (kind, count) == (2, 1) && length > 0
+            }
+            _ => |_, _, _| false,
+        }
+    }
+
+    /// What the call takes besides: some slip in one of them alone.
+    fn takes_in(&self, slip: Slip) -> older::Takes {
+        if self.is(slip) {
+            older::without_bytes
+        } else {
+            self.takes()
+        }
+    }
+
+    /// The bytes as the reader sees them.
+    fn read_seen(&self, bytes: &[u8]) -> Vec<u8> {
+        older::message(self.takes_in(ReaderTakesCountWithoutBytes), bytes)
+    }
+
+    /// Delivers what is held and the piece as the program sees them.
+    fn deliver_seen(
+        &self,
+        record: Record,
+        area: &mut [u8],
+        n: u8,
+        piece: &[u8],
+        output: &mut [u8],
+    ) -> Delivered {
+        let Some(held) = undecided(&record, area, n) else {
+            return Second.deliver(record, area, n, piece, output);
+        };
+        let before = area.to_vec();
+        let bytes = [&area[held.clone()], piece].concat();
+        let seen = older::message(self.takes_in(DeliveryTakesCountWithoutBytes), &bytes);
+        let (front, piece) = seen.split_at(held.len());
+        area[held].copy_from_slice(front);
+        let answer = Second.deliver(record, area, n, piece, output);
+        if answer.number != 0 {
+            area.copy_from_slice(&before);
+        }
+        answer
+    }
+}
+
+/// Where the undecided bytes of an open connection stand in an area of the right length.
+fn undecided(record: &Record, area: &[u8], n: u8) -> Option<Range<usize>> {
+    let held = usize::from(*record.held.get(usize::from(n))?);
+    let start = 2_049 * usize::from(n);
+    (area.len() == AREA && held <= 2_048).then_some(start..start + held)
+}
+
+/// The device that has run the commands before the first count without bytes, if there is one.
+fn run_before(record: &Record, area: &[u8], n: u8, piece: &[u8]) -> Option<Device> {
+    let bytes = [&area[undecided(record, area, n)?], piece].concat();
+    let kind = *bytes.get(7)?;
+    let entries = older::entries(&bytes);
+    let count = entries.iter().position(|place| {
+        let entry = &bytes[place.clone()];
+        older::entry(older::without_bytes, kind, entry) != entry
+    })?;
+    let end = entries[count].start;
+    let front = framed(1, end as u32 - 1, kind, count as u16, &bytes[10..end]);
+    let mut alone = *record;
+    alone.held = [0; 8];
+    let answer = Second.deliver(alone, &mut [0; AREA], n, &front, &mut [0; 4_096]);
+    (answer.kind == MESSAGE).then_some(answer.record.device)
 }
 
 /// A count of the record and the step do not fit 64 bits.
@@ -505,7 +620,11 @@ impl Engine for Slipping {
                 ..Delivered::default()
             };
         }
-        let mut answer = Second.deliver(self.seen(&record), area, n, piece, output);
+        let ran = match self.0 {
+            RunsBeforeACountWithoutBytes => run_before(&record, area, n, piece),
+            _ => None,
+        };
+        let mut answer = self.deliver_seen(self.seen(&record), area, n, piece, output);
         let at = usize::from(n).min(7);
         let before = record.device;
         if answer.number == 0
@@ -523,6 +642,11 @@ impl Engine for Slipping {
             RunsBeforeTheCheck if answer.fault == 6 => {
                 if let Some((mute, value @ 1..=2)) = first_set(piece) {
                     answer.record.device.mutes[mute] = value;
+                }
+            }
+            RunsBeforeACountWithoutBytes if answer.fault == 6 => {
+                if let Some(ran) = ran {
+                    answer.record.device.mutes = ran.mutes;
                 }
             }
             AnyByteIsHeard if answer.kind == MORE && answer.taken > 0 => connection.silence = 0,
@@ -650,27 +774,21 @@ impl Engine for Slipping {
     }
 
     fn read_message(&self, bytes: &[u8]) -> Reading {
-        let mut answer = Second.read_message(bytes);
-        if answer.number != 0 {
-            return answer;
-        }
-        let bare = bytes.len() >= 27 && bytes[13] == 17 && bytes[26] != 0;
-        match self.0 {
-            ReaderLooksBehind => answer.length = bytes.len(),
-            CountWithoutBytesFaulty if answer.kind < 2 && bare => {
-                answer = Reading {
-                    number: 8,
-                    fault: 6,
-                    ..Reading::default()
-                };
-            }
-            _ => {}
+        let mut answer = Second.read_message(&self.read_seen(bytes));
+        if self.is(ReaderLooksBehind) && answer.number == 0 {
+            answer.length = bytes.len();
         }
         answer
     }
 
     fn read_entry(&self, bytes: &[u8], index: usize) -> Entry {
-        let mut answer = Second.read_entry(bytes, index);
+        let seen = self.read_seen(bytes);
+        let mut answer = Second.read_entry(&seen, index);
+        if seen != bytes && answer.number == 0 {
+            // The count that stands there, not the one that is seen.
+            let back = if answer.kind == 2 { 13 } else { 1 };
+            answer.count = bytes[Second.entry_part(&seen, index).start - back];
+        }
         match self.0 {
             StatusAndCountSwapped if answer.kind == 3 => {
                 (answer.status, answer.count) = (answer.count, answer.status);
@@ -696,7 +814,7 @@ impl Engine for Slipping {
     }
 
     fn entry_part(&self, bytes: &[u8], index: usize) -> Part {
-        let mut answer = Second.entry_part(bytes, index);
+        let mut answer = Second.entry_part(&self.read_seen(bytes), index);
         match self.0 {
             PartFromTheEntry if answer.length > 0 => answer.start -= 1,
             RefusedPartHasAPlace if answer.start == 0 => answer.start = 10,
@@ -712,7 +830,11 @@ impl Engine for Slipping {
     }
 
     fn start(&self, buffer: &mut [u8], kind: u8, entry: &[u8]) -> Written {
-        let mut answer = Second.start(buffer, kind, entry);
+        let takes = self.takes_in(WriterTakesCountWithoutBytes);
+        let mut answer = Second.start(buffer, kind, &older::entry(takes, kind, entry));
+        if answer.number == 0 {
+            buffer[10..answer.length].copy_from_slice(entry);
+        }
         if self.is(TooLongBeforeBadEntry) && answer.number == 11 && entry.len() > 2_039 {
             answer.number = 10;
         }
@@ -721,7 +843,17 @@ impl Engine for Slipping {
 
     fn append(&self, buffer: &mut [u8], kind: u8, entry: &[u8]) -> Written {
         let before = buffer.get(7).copied().unwrap_or_default();
-        let mut answer = Second.append(buffer, kind, entry);
+        let given = buffer.to_vec();
+        buffer.copy_from_slice(&older::message(self.takes(), &given));
+        let takes = self.takes_in(WriterTakesCountWithoutBytes);
+        let mut answer = Second.append(buffer, kind, &older::entry(takes, kind, entry));
+        if answer.number == 0 {
+            let end = answer.length - entry.len();
+            buffer[10..end].copy_from_slice(&given[10..end]);
+            buffer[end..answer.length].copy_from_slice(entry);
+        } else {
+            buffer.copy_from_slice(&given);
+        }
         match self.0 {
             AppendTouchesBehind if answer.number == 0 => {
                 if let Some(behind) = buffer.get_mut(answer.length) {

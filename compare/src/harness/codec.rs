@@ -28,7 +28,7 @@ pub fn read(desk: &mut Desk<'_, '_>) -> Checked<()> {
     desk.session.check(Call::ReadMessage {
         bytes: bytes.clone(),
     })?;
-    desk.ask_for(&bytes, index)
+    desk.ask_for(&bytes, index).map(drop)
 }
 
 /// A buffer mostly long enough, filled at random.

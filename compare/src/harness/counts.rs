@@ -57,6 +57,16 @@ pub struct Counts {
     clocks: u64,
     /// Those of them that closed a connection.
     clocks_closing: u64,
+    /// Entries of a given count and so many bytes, each in a message.
+    tried: u64,
+    /// Those of them that are not well formed.
+    tried_faulty: u64,
+    /// Those of them that have a count and no bytes.
+    tried_bare: u64,
+    /// Closures by a message that has one of these.
+    bare_closures: u64,
+    /// Writes of one of these, refused by 11.
+    bare_unwritten: u64,
     reset: ResetCounts,
 }
 
@@ -101,6 +111,23 @@ impl Counts {
     pub fn count_clock(&mut self, closed: u8) {
         self.clocks += 1;
         self.clocks_closing += u64::from(closed != 0);
+    }
+
+    /// Counts an entry tried in a message, by whether it is well formed and whether only its bytes are missing.
+    pub fn count_tried(&mut self, sound: bool, bare: bool) {
+        self.tried += 1;
+        self.tried_faulty += u64::from(!sound);
+        self.tried_bare += u64::from(bare);
+    }
+
+    /// Counts a delivery that closes if the message has an entry with a count and no bytes.
+    pub fn count_closure(&mut self, bare: bool) {
+        self.bare_closures += u64::from(bare);
+    }
+
+    /// Counts a write that is refused by 11 if the entry has a count and no bytes.
+    pub fn count_unwritten(&mut self, bare: bool) {
+        self.bare_unwritten += u64::from(bare);
     }
 
     fn count_beyond(&mut self, call: &Call, number: usize) {
@@ -178,6 +205,11 @@ impl Counts {
         self.beyond_refused += other.beyond_refused;
         self.clocks += other.clocks;
         self.clocks_closing += other.clocks_closing;
+        self.tried += other.tried;
+        self.tried_faulty += other.tried_faulty;
+        self.tried_bare += other.tried_bare;
+        self.bare_closures += other.bare_closures;
+        self.bare_unwritten += other.bare_unwritten;
         self.reset.add(&other.reset);
     }
 
@@ -241,6 +273,11 @@ impl Counts {
             ("ticks whose sum does not fit 64 bits", self.beyond),
             ("lists of ticks held to one", self.clocks),
             ("lists of ticks that closed", self.clocks_closing),
+            ("entries tried by count and bytes", self.tried),
+            ("entries tried that are not well formed", self.tried_faulty),
+            ("entries tried with a count and no bytes", self.tried_bare),
+            ("closures by a count without bytes", self.bare_closures),
+            ("counts without bytes not written", self.bare_unwritten),
         ]
         .into_iter()
     }
@@ -319,6 +356,8 @@ impl Counts {
              parts                   with bytes {}, empty {}\n\
              sums beyond 64 bits     tried {}, refused by 1: {}\n\
              lists of ticks          held to one tick {}, of them closing {}\n\
+             counts and bytes        tried {}, not well formed {}, count without bytes {}\n\
+             counts without bytes    closures {}, not written by 11: {}\n\
              calls in all            {}\n\
              kinds that have to come {}, the rarest {} times",
             self.more,
@@ -335,6 +374,11 @@ impl Counts {
             self.beyond_refused,
             self.clocks,
             self.clocks_closing,
+            self.tried,
+            self.tried_faulty,
+            self.tried_bare,
+            self.bare_closures,
+            self.bare_unwritten,
             self.total(),
             self.lines().len(),
             self.rarest()

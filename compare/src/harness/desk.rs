@@ -6,7 +6,7 @@ use super::random::Random;
 use super::reset;
 use super::session::{Checked, Session};
 use super::traffic;
-use crate::answer::Delivered;
+use crate::answer::{Delivered, Entry, Part};
 use crate::record::{AREA, Record};
 
 /// The least output of delivery and take.
@@ -49,15 +49,25 @@ impl<'s, 'e> Desk<'s, 'e> {
         Ok(())
     }
 
-    /// Reads an entry, and asks for its part.
-    pub fn ask_for(&mut self, bytes: &[u8], index: usize) -> Checked<()> {
+    /// Reads an entry, and asks for its part: that is empty exactly where the
+    /// entry is refused or its count is the least (document 02 (v)).
+    pub fn ask_for(&mut self, bytes: &[u8], index: usize) -> Checked<(Entry, Part)> {
         let bytes = bytes.to_vec();
-        self.session.check(Call::ReadEntry {
+        let read = self.session.check(Call::ReadEntry {
             bytes: bytes.clone(),
             index,
         })?;
-        self.session.check(Call::EntryPart { bytes, index })?;
-        Ok(())
+        let call = Call::EntryPart { bytes, index };
+        let outcome = self.session.check(call.clone())?;
+        let (entry, part) = match (read.answer, outcome.answer) {
+            (Answer::Entry(entry), Answer::Part(part)) => (entry, part),
+            _ => Default::default(),
+        };
+        let bare = entry.number != 0 || entry.count == u8::from(entry.kind == 2);
+        let kept = bare == (part.length == 0);
+        self.session
+            .demand(kept, "an entry's count and part do not agree", call)?;
+        Ok((entry, part))
     }
 
     /// Makes a call and goes on from its outcome, if it was done.

@@ -26,9 +26,11 @@ pub enum Kind {
     Changed,
     Truncated,
     Garbage,
+    /// Sound messages, one with a count without bytes, and more.
+    Miscounted,
 }
 
-pub const KINDS: [Kind; 8] = [
+pub const KINDS: [Kind; 9] = [
     Kind::Empty,
     Kind::Sound,
     Kind::Longest,
@@ -37,6 +39,7 @@ pub const KINDS: [Kind; 8] = [
     Kind::Changed,
     Kind::Truncated,
     Kind::Garbage,
+    Kind::Miscounted,
 ];
 
 /// How it is handed to the program.
@@ -53,6 +56,8 @@ pub struct Input {
     pub number: u64,
     pub kind: Kind,
     pub bytes: Vec<u8>,
+    /// Where the listing has to stop by fault 6, if the way it was made says so.
+    pub stop: Option<usize>,
     pub feed: Feed,
 }
 
@@ -70,14 +75,16 @@ pub fn input(number: u64) -> Input {
         6..=9 => Kind::Changed,
         10..=13 => Kind::Truncated,
         14..=19 => Kind::Damaged,
+        20 | 21 => Kind::Miscounted,
         _ => Kind::Sound,
     };
-    let bytes = bytes_of(&mut random, kind);
+    let (bytes, stop) = bytes_of(&mut random, kind);
     let feed = feed_of(&mut random, &bytes);
     Input {
         number,
         kind,
         bytes,
+        stop,
         feed,
     }
 }
@@ -89,42 +96,14 @@ fn messages(random: &mut Random, most: usize) -> Vec<u8> {
         .collect()
 }
 
-fn bytes_of(random: &mut Random, kind: Kind) -> Vec<u8> {
-    match kind {
+/// The bytes, and where the listing has to stop by fault 6 if that is known.
+fn bytes_of(random: &mut Random, kind: Kind) -> (Vec<u8>, Option<usize>) {
+    let bytes = match kind {
         Kind::Empty => Vec::new(),
         Kind::Sound => messages(random, 12),
-        Kind::Longest => {
-            let mut bytes = messages(random, 2);
-            for _ in 0..1 + random.below(4) {
-                let (kind, size) = (random.pick(&[0, 1, 2, 3]), random.pick(&[2_047, 2_048]));
-                bytes.extend(traffic::of_size(random, kind, size));
-            }
-            bytes
-        }
-        Kind::Long => {
-            let mut bytes = Vec::new();
-            let length = 16_000 + random.below(70_000);
-            while bytes.len() < length {
-                bytes.extend(traffic::any_message(random));
-            }
-            match random.below(3) {
-                0 => bytes.truncate(length),
-                1 => bytes.extend(traffic::any_damaged(random)),
-                _ => (),
-            }
-            bytes
-        }
-        Kind::Damaged => {
-            let mut bytes = messages(random, 4);
-            let damaged = if random.chance(40) {
-                wrong_header(random)
-            } else {
-                traffic::any_damaged(random)
-            };
-            bytes.extend(damaged);
-            bytes.extend(messages(random, 3));
-            bytes
-        }
+        Kind::Longest => longest(random),
+        Kind::Long => long(random),
+        Kind::Damaged => damaged(random),
         Kind::Changed => {
             let mut bytes = messages(random, 6);
             let at = random.below(bytes.len());
@@ -144,7 +123,56 @@ fn bytes_of(random: &mut Random, kind: Kind) -> Vec<u8> {
             }
             bytes
         }
+        Kind::Miscounted => return miscounted(random),
+    };
+    (bytes, None)
+}
+
+fn longest(random: &mut Random) -> Vec<u8> {
+    let mut bytes = messages(random, 2);
+    for _ in 0..1 + random.below(4) {
+        let (kind, size) = (random.pick(&[0, 1, 2, 3]), random.pick(&[2_047, 2_048]));
+        bytes.extend(traffic::of_size(random, kind, size));
     }
+    bytes
+}
+
+fn long(random: &mut Random) -> Vec<u8> {
+    let mut bytes = Vec::new();
+    let length = 16_000 + random.below(70_000);
+    while bytes.len() < length {
+        bytes.extend(traffic::any_message(random));
+    }
+    match random.below(3) {
+        0 => bytes.truncate(length),
+        1 => bytes.extend(traffic::any_damaged(random)),
+        _ => (),
+    }
+    bytes
+}
+
+fn damaged(random: &mut Random) -> Vec<u8> {
+    let mut bytes = messages(random, 4);
+    let damaged = if random.chance(40) {
+        wrong_header(random)
+    } else {
+        traffic::any_damaged(random)
+    };
+    bytes.extend(damaged);
+    bytes.extend(messages(random, 3));
+    bytes
+}
+
+/// Sound messages, one with a count without bytes, and more bytes; and where that one begins.
+fn miscounted(random: &mut Random) -> (Vec<u8>, Option<usize>) {
+    let mut bytes = messages(random, 4);
+    let stop = bytes.len();
+    bytes.extend(traffic::count_without_bytes(random));
+    match random.below(3) {
+        0 => bytes.extend(random.bytes(30)),
+        _ => bytes.extend(messages(random, 3)),
+    }
+    (bytes, Some(stop))
 }
 
 /// A message whose type or count is none: the faults that damage at random seldom makes.
@@ -330,6 +358,13 @@ pub fn compare(input: &Input, listing: &Listing) -> Result<String, Difference> {
         ),
     };
     let right = list(&input.bytes);
+    if let Some(stop) = input.stop
+        && !right.ends_with(&format!("\n{stop} stop 6\n"))
+    {
+        return Err(differs(format!(
+            "the second program does not stop by fault 6 at {stop}"
+        )));
+    }
     let left = listing(input).map_err(|error| differs(error.to_string()))?;
     if left == right.as_bytes() {
         return Ok(right);

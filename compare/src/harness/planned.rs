@@ -1,5 +1,6 @@
 //! Calls that are gone through one by one instead of being left to chance.
 
+mod counts;
 mod messages;
 mod reset;
 mod states;
@@ -15,7 +16,7 @@ const HALF: u32 = 1 << 31;
 
 type Plan = fn(&mut Desk<'_, '_>) -> Checked<()>;
 
-const PLANS: [Plan; 27] = [
+const PLANS: [Plan; 28] = [
     states::freshness,
     states::beyond_64_bits,
     states::full_table,
@@ -43,6 +44,7 @@ const PLANS: [Plan; 27] = [
     messages::every_entry,
     time::greatest_counts,
     time::slow_clocks,
+    counts::counts,
 ];
 
 /// Goes through all plans.

@@ -140,7 +140,8 @@ pub fn any_setting(random: &mut Random) -> Vec<u8> {
         5 => off_by_one(random, &key, text, port),
         _ => {
             let mut bytes = setting(&key, text, port);
-            bytes.truncate(random.below(20));
+            // One byte at least, or the count of 2 would not be well formed.
+            bytes.truncate(1 + random.below(19));
             bytes
         }
     }

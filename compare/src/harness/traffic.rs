@@ -216,26 +216,37 @@ fn any_name(random: &mut Random) -> Vec<u8> {
 }
 
 /// Sometimes a wrong count or length, but still a well-formed entry.
-fn disturbed(random: &mut Random, mut count: u8, mut rest: Vec<u8>) -> (u8, Vec<u8>) {
+fn disturbed(random: &mut Random, count: u8, mut rest: Vec<u8>) -> (u8, Vec<u8>) {
     if random.chance(90) {
         return (count, rest);
     }
     match random.below(6) {
-        0 => count = count.wrapping_add(1),
-        1 => count = count.saturating_sub(1),
-        2 => rest.push(random.byte()),
+        0 => counted(random, count.wrapping_add(1), rest),
+        1 => counted(random, count.saturating_sub(1), rest),
+        2 => {
+            rest.push(random.byte());
+            (count.max(1), rest)
+        }
         3 => {
             rest.pop();
+            (if rest.is_empty() { 0 } else { count }, rest)
         }
-        4 => rest.clear(),
+        4 => (0, Vec::new()),
         _ => {
             let length = random.below(40);
-            count = random.byte();
-            rest = random.bytes(length);
+            let count = random.byte();
+            let rest = random.bytes(length);
+            counted(random, count, rest)
         }
     }
+}
+
+/// The bytes that go with the count: none with 0, else at least one.
+fn counted(random: &mut Random, count: u8, mut rest: Vec<u8>) -> (u8, Vec<u8>) {
     if count == 0 {
         rest.clear();
+    } else if rest.is_empty() {
+        rest.push(random.byte());
     }
     (count, rest)
 }
@@ -247,15 +258,52 @@ pub fn any_entry(random: &mut Random, kind: u8) -> Vec<u8> {
     let many = random.pick(&[1, 2, 3, 255]);
     match kind {
         2 => {
-            let count = if rest.is_empty() { many } else { many.max(2) };
+            let count = if rest.is_empty() { 1 } else { many.max(2) };
             notification(random, count, &rest)
         }
         3 => {
-            let none = rest.is_empty() && random.chance(60);
-            response(random, if none { 0 } else { many }, &rest)
+            let count = if rest.is_empty() { 0 } else { many };
+            response(random, count, &rest)
         }
         _ => any_command(random),
     }
+}
+
+/// An entry of the type with this count and these bytes, well formed or not.
+fn entry_with(random: &mut Random, kind: u8, count: u8, rest: &[u8]) -> Vec<u8> {
+    match kind {
+        2 => notification(random, count, rest),
+        3 => response(random, count, rest),
+        _ => command(random.word(), random.pick(&MUTES), (4, 2), count, rest),
+    }
+}
+
+/// A message that one entry spoils, whose count is above the least and which has no bytes.
+pub fn count_without_bytes(random: &mut Random) -> Vec<u8> {
+    let kind = random.pick(&[0, 1, 2, 3]);
+    let least = u8::from(kind == 2);
+    let count = random.pick(&[1, 1, 2, 3, 128, 254]) + least;
+    let entry = entry_with(random, kind, count, &[]);
+    among_sound(random, kind, entry)
+}
+
+/// A message that one entry spoils, which has bytes and the least count.
+fn bytes_without_count(random: &mut Random) -> Vec<u8> {
+    let kind = random.pick(&[0, 1, 2, 3]);
+    let length = random.pick(&[1, 1, 2, 30]);
+    let rest = random.bytes(length);
+    let entry = entry_with(random, kind, u8::from(kind == 2), &rest);
+    among_sound(random, kind, entry)
+}
+
+/// A message of the entry, with up to two well-formed ones before it and behind it.
+fn among_sound(random: &mut Random, kind: u8, entry: Vec<u8>) -> Vec<u8> {
+    let (before, behind) = (random.below(3), random.below(3));
+    let mut entries: Vec<Vec<u8>> = (0..before + behind)
+        .map(|_| any_entry(random, kind))
+        .collect();
+    entries.insert(before, entry);
+    message(kind, &entries)
 }
 
 /// Seconds or milliseconds, of every size.
@@ -337,18 +385,8 @@ pub fn of_size(random: &mut Random, kind: u8, size: u32) -> Vec<u8> {
 /// A sound message made worse in one place, or sometimes left sound.
 pub fn any_damaged(random: &mut Random) -> Vec<u8> {
     let mut bytes = any_message(random);
-    match random.below(11) {
-        0 => bytes[0] = random.byte(),
-        1 => bytes[1 + random.below(2)] = random.byte(),
-        2 => {
-            let size = random.pick(&[0, 8, 9, 10, 11, 12, 13, 2_047, 2_048, 2_049, 2_627, 65_545]);
-            bytes.splice(3..7, u32::to_be_bytes(size));
-        }
-        3 => bytes[7] = random.pick(&[0, 1, 2, 3, 4, 5, 6, 255]),
-        4 => {
-            let count = random.pick(&[0, 0, 1, 2, 3, 119, 256, 65_535]);
-            bytes.splice(8..10, u16::to_be_bytes(count));
-        }
+    match random.below(13) {
+        place @ 0..=4 => damage_header(random, &mut bytes, place),
         5 => {
             let last = bytes.len() - 1;
             bytes[last] = bytes[last].wrapping_add(1);
@@ -371,12 +409,31 @@ pub fn any_damaged(random: &mut Random) -> Vec<u8> {
                 bytes[..3].copy_from_slice(&[0x3B, 0, 1]);
             }
         }
+        10 => bytes = count_without_bytes(random),
+        11 => bytes = bytes_without_count(random),
         _ => {
             let at = random.below(bytes.len());
             bytes[at] = random.byte();
         }
     }
     bytes
+}
+
+/// Another first byte, version, size, type or count, by its place in the message.
+fn damage_header(random: &mut Random, bytes: &mut Vec<u8>, place: usize) {
+    match place {
+        0 => bytes[0] = random.byte(),
+        1 => bytes[1 + random.below(2)] = random.byte(),
+        2 => {
+            let size = random.pick(&[0, 8, 9, 10, 11, 12, 13, 2_047, 2_048, 2_049, 2_627, 65_545]);
+            bytes.splice(3..7, u32::to_be_bytes(size));
+        }
+        3 => bytes[7] = random.pick(&[0, 1, 2, 3, 4, 5, 6, 255]),
+        _ => {
+            let count = random.pick(&[0, 0, 1, 2, 3, 119, 256, 65_535]);
+            bytes.splice(8..10, u16::to_be_bytes(count));
+        }
+    }
 }
 
 /// The scope paper's messages, and one of each kind besides.
@@ -397,7 +454,7 @@ pub fn samples() -> Vec<Vec<u8>> {
             3,
             &[
                 response(&mut random, 1, &[1, 2]),
-                response(&mut random, 1, &[]),
+                response(&mut random, 1, &[0]),
             ],
         ),
         message(2, &[notification(&mut random, 2, &[0, 4, 0, 1, 1, 1])]),

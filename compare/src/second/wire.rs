@@ -167,6 +167,11 @@ fn count_place(kind: u8) -> usize {
     }
 }
 
+/// The least count of an entry of this type, which means no parameter bytes.
+fn least_count(kind: u8) -> u8 {
+    if kind == NOTIFICATION { 1 } else { 0 }
+}
+
 /// Whether the bytes are exactly one well-formed entry of this type.
 pub fn is_entry(kind: u8, bytes: &[u8]) -> bool {
     let Some(least) = least_entry(kind) else {
@@ -181,10 +186,10 @@ pub fn is_entry(kind: u8, bytes: &[u8]) -> bool {
     }
     let count = bytes[count_place(kind)];
     let bare = bytes.len() == least;
-    if kind == NOTIFICATION {
-        count > 1 || (count == 1 && bare)
+    if bare {
+        count == least_count(kind)
     } else {
-        count > 0 || bare
+        count > least_count(kind)
     }
 }
 

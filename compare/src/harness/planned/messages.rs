@@ -5,14 +5,16 @@ use crate::harness::desk::Desk;
 use crate::harness::session::Checked;
 use crate::harness::traffic::{self, command, message};
 
-/// Counts and lengths that some method wants, and some that none wants.
-const ARGUMENTS: [(u8, usize); 8] = [
+/// Counts and lengths that some method wants, and some that none wants; all are well formed.
+const ARGUMENTS: [(u8, usize); 10] = [
     (0, 0),
     (1, 1),
     (5, 23),
     (2, 16),
     (2, 20),
-    (1, 0),
+    (1, 2),
+    (2, 1),
+    (5, 1),
     (5, 22),
     (2, 17),
 ];
@@ -222,7 +224,12 @@ pub fn every_method(desk: &mut Desk<'_, '_>) -> Checked<()> {
         }
     }
     for (place, some) in entries.chunks(12).enumerate() {
-        desk.deliver((place % 2) as u8, &message(1, some))?;
+        let (n, bytes) = ((place % 2) as u8, message(1, some));
+        let call = desk.delivering(n, &bytes);
+        let answer = desk.piece(n, &bytes)?.unwrap_or_default();
+        let kept = (answer.taken, answer.length > 0) == (bytes.len(), true);
+        desk.session
+            .demand(kept, "well-formed commands got no reply", call)?;
     }
     Ok(())
 }

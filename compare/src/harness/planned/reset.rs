@@ -89,7 +89,8 @@ pub fn every_length(desk: &mut Desk<'_, '_>) -> Checked<()> {
         let right = setting(&KEYS[1], text, 1);
         let mut long = right.clone();
         long.extend([0, 0, 9]);
-        for length in 0..=long.len() {
+        // Without a byte the count of 2 would close the connection.
+        for length in 1..=long.len() {
             given.push((2, long[..length].to_vec()));
         }
         for length in (0..40).chain([255, 256, 265, 65_535]) {
