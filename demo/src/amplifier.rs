@@ -16,7 +16,7 @@ const ROOM: usize = 4_096;
 /// The refusal of an opening with 8 open.
 const TABLE_FULL: u8 = 5;
 
-/// A call that the library refused: this host makes none that it may refuse.
+/// A call that the library refused: this host makes none that it may refuse, but for what `announce` asks the writer.
 #[derive(Clone, Copy, Debug, PartialEq, Eq)]
 pub struct Refused {
     pub call: &'static str,

@@ -312,6 +312,11 @@ mod tests {
             "closed connection 1: fault 4 (type above 4)",
         );
         said(
+            closed(Why::Fault(6), 0, &[5]),
+            "closed connection 1: fault 6 (data that do not fit their type, \
+             or a count without bytes); mute 5 is free",
+        );
+        said(
             closed(Why::HungUp, 0, &[2, 8]),
             "closed connection 1: the controller hung up; mutes 2, 8 are free",
         );

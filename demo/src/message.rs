@@ -8,6 +8,8 @@ use compare::engine::Engine;
 use compare::harness::traffic;
 use compare::ours::Ours;
 
+/// The bytes before the first entry: the 3B and the header.
+const BEFORE_ENTRIES: usize = 10;
 /// The least buffer of the writer; no message that is read is longer.
 const ROOM: usize = 2_049;
 /// The command type that wants a reply.
@@ -83,6 +85,31 @@ pub fn command(handle: u32, asking: Asking, mute: u8) -> Result<Vec<u8>, Refused
         Asking::Unsubscribe => (SUBSCRIPTION_MANAGER, (3, 2), 2, subscription(object)),
     };
     message(&traffic::command(handle, target, method, count, &rest))
+}
+
+/// A lock that announces one parameter and has no byte of it: the writer's lock with another parameter count, as it
+/// builds no such entry.
+pub fn announcing(handle: u32, mute: u8) -> Result<Vec<u8>, Refused> {
+    let mut bytes = command(handle, Asking::Lock, mute)?;
+    // a lock ends with its parameter count
+    if let Some(count) = bytes.last_mut() {
+        *count = 1;
+    }
+    Ok(bytes)
+}
+
+/// What the writer says of the entry of a message that has one, wanting reply; nothing if it would build it.
+pub fn refusal(bytes: &[u8]) -> Option<u8> {
+    let entry = bytes.get(BEFORE_ENTRIES..).unwrap_or_default();
+    message(entry).err().map(|refused| refused.number)
+}
+
+/// What the reader says against a message; nothing if it is sound, or not whole.
+pub fn fault(bytes: &[u8]) -> Option<u8> {
+    match read(bytes) {
+        Front::Fault(fault) => Some(fault),
+        _ => None,
+    }
 }
 
 /// Method 3.14: key and network address, as it was typed: the amplifier judges it.
@@ -184,6 +211,46 @@ mod tests {
         assert_eq!(keep_alive(beat(1)).unwrap(), seconds);
         let milliseconds = [0x3B, 0, 1, 0, 0, 0, 0x0D, 4, 0, 1, 0, 0, 7, 0xD0];
         assert_eq!(keep_alive(beat(2)).unwrap(), milliseconds);
+    }
+
+    /// A lock of mute 5 but for its last byte, the count; with the count as it was nothing is said against it.
+    #[test]
+    fn a_count_without_bytes_is_neither_written_nor_read() {
+        let announced = [
+            0x3B, 0, 1, 0, 0, 0, 0x1A, 1, 0, 1, 0, 0, 0, 0x11, 0, 0, 0, 7, 0, 0, 0x10, 5, 0, 1, 0,
+            3, 1,
+        ];
+        assert_eq!(announcing(7, 5).unwrap(), announced);
+        assert_eq!(refusal(&announced), Some(11));
+        assert_eq!(fault(&announced), Some(6));
+        assert_eq!(read(&announced[..26]), Front::Part);
+        let lock = command(7, Asking::Lock, 5).unwrap();
+        assert_eq!(lock[..26], announced[..26]);
+        assert_eq!((refusal(&lock), fault(&lock)), (None, None));
+    }
+
+    /// One byte is enough, whatever the count: of a command, a notification, a response.
+    #[test]
+    fn a_count_with_one_byte_is_read() {
+        let entries: [(u8, &[u8]); 3] = [
+            (1, &[0, 0, 0, 7, 0, 0, 0x10, 5, 0, 1, 0, 3, 255]),
+            (
+                2,
+                &[
+                    0, 0, 0, 9, 0, 3, 0, 1, 255, 1, 2, 3, 4, 0, 0, 0x10, 5, 0, 1, 0, 1,
+                ],
+            ),
+            (3, &[0, 0, 0, 7, 0, 255]),
+        ];
+        for (kind, fields) in entries {
+            let size = 4 + fields.len() as u8;
+            let with = [&[0, 0, 0, size + 1], fields, &[0]].concat();
+            let read_with = read(&traffic::message(kind, &[with]));
+            assert!(matches!(read_with, Front::Message { .. }), "{read_with:?}");
+            let without = [&[0, 0, 0, size], fields].concat();
+            let read_without = read(&traffic::message(kind, &[without]));
+            assert_eq!(read_without, Front::Fault(6));
+        }
     }
 
     /// The service page's example, which has no address.

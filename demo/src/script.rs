@@ -28,6 +28,7 @@ pub fn restarting(port: u16) -> String {
 pub const HELP: &str =
     "  lock N, unlock N, mute N, unmute N, get N, subscribe N, unsubscribe N   ask mute N, 1 to 8
   await N      ask for the lock every second until it is given
+  announce N   lock mute N, announcing one parameter without a byte of it: the amplifier closes the connection
   beat S       set the heartbeat in seconds and keep alive; 'beat 200ms' in milliseconds; 0: no more
   arm KEY PORT [ADDRESS]       set the reset key, 32 hex digits, a UDP port and perhaps a multicast group
   restart KEY PORT [ADDRESS]   send the datagram that resets, by UDP to 127.0.0.1 or to the group
@@ -43,6 +44,7 @@ pub const HELP: &str =
 pub enum Command {
     Ask(Asking, u8),
     Await(u8),
+    Announce(u8),
     Beat(Beat),
     Bytes(Vec<u8>),
     Arm(Arm),
@@ -80,13 +82,15 @@ where
         _ => {}
     }
     let asking = asking(word);
-    if asking.is_none() && !["await", "beat", "bytes", "wait", "as"].contains(&word) {
+    let others = ["await", "announce", "beat", "bytes", "wait", "as"];
+    if asking.is_none() && !others.contains(&word) {
         return Err(format!("'{word}' is no command"));
     }
     let argument = words.next().unwrap_or_default();
     let parsed = match (word, asking) {
         (_, Some(asking)) => mute(argument).map(|mute| Command::Ask(asking, mute)),
         ("await", _) => mute(argument).map(Command::Await),
+        ("announce", _) => mute(argument).map(Command::Announce),
         ("beat", _) => beat(argument).map(Command::Beat),
         ("bytes", _) => bytes(argument).map(Command::Bytes),
         ("wait", _) => wait(argument).map(Command::Wait),
@@ -173,12 +177,16 @@ mod tests {
             form: 2,
             milliseconds: 200,
         };
-        let commands = parse("as panel beat 2 beat 200ms lock 5\nbytes 3b00fF wait 70 dead quit");
+        let commands = parse(
+            "as panel beat 2 beat 200ms lock 5\nannounce 1 announce 8 bytes 3b00fF wait 70 dead quit",
+        );
         let expected = vec![
             Command::As("panel".to_string()),
             Command::Beat(seconds),
             Command::Beat(milliseconds),
             Command::Ask(Asking::Lock, 5),
+            Command::Announce(1),
+            Command::Announce(8),
             Command::Bytes(vec![0x3B, 0, 0xFF]),
             Command::Wait(Duration::from_millis(70)),
             Command::Dead,
@@ -235,6 +243,10 @@ mod tests {
             "lock 0",
             "lock 9",
             "lock five",
+            "announce",
+            "announce 0",
+            "announce 9",
+            "announce lock",
             "beat",
             "beat -1",
             "beat 65536",

@@ -102,6 +102,7 @@ impl<W: Write> Session<W> {
         match command {
             Command::Ask(asking, mute) => drop(self.ask(asking, mute)?),
             Command::Await(mute) => self.ask_again(mute)?,
+            Command::Announce(mute) => self.announce(mute)?,
             Command::Beat(beat) => self.beat(beat)?,
             Command::Bytes(bytes) => {
                 self.current()?;
@@ -167,17 +168,47 @@ impl<W: Write> Session<W> {
         name: &str,
         command: impl Fn(u32) -> Result<Vec<u8>, Refused>,
     ) -> io::Result<(u8, Vec<u8>)> {
-        let tablet = self.current()?;
-        tablet.handle += 1;
-        let asked = tablet.handle;
+        let asked = self.next_handle()?;
         self.send(&command(asked)?)?;
-        let reply = |said: &Said| matches!(said, Said::Reply { handle, .. } if *handle == asked);
-        match self.attend(PATIENCE, reply)? {
+        match self.attend_reply(asked)? {
             Came::Said(Said::Reply {
                 status, parameters, ..
             }) => Ok((status, parameters)),
             came => Err(self.missing(name, &came)),
         }
+    }
+
+    fn next_handle(&mut self) -> io::Result<u32> {
+        let tablet = self.current()?;
+        tablet.handle += 1;
+        Ok(tablet.handle)
+    }
+
+    fn attend_reply(&mut self, asked: u32) -> io::Result<Came> {
+        let reply = |said: &Said| matches!(said, Said::Reply { handle, .. } if *handle == asked);
+        self.attend(PATIENCE, reply)
+    }
+
+    /// Sends what the writer does not build, and tells what comes of it; a closure is what is wanted, and no error.
+    fn announce(&mut self, mute: u8) -> io::Result<()> {
+        let asked = self.next_handle()?;
+        let bytes = message::announcing(asked, mute)?;
+        let length = bytes.len();
+        let refusal = message::refusal(&bytes).map_or("no refusal".to_string(), words::refusal);
+        self.say(format_args!(
+            "announce {mute}: one parameter and no byte of it: the writer gives {refusal}; \
+             sends {length} bytes all the same"
+        ))?;
+        self.send(&bytes)?;
+        let came = match self.attend_reply(asked)? {
+            Came::Said(Said::Reply { status, .. }) => words::status(status),
+            Came::Closed => "closed".to_string(),
+            _ => "neither closed nor answered".to_string(),
+        };
+        let fault = message::fault(&bytes).map_or("no fault".to_string(), words::fault);
+        self.say(format_args!(
+            "announce {mute}: {came}; the reader gives these bytes {fault}"
+        ))
     }
 
     /// Sends the datagram; that it worked is seen by the connections which the amplifier closes.

@@ -42,7 +42,7 @@ pub fn fault(number: u8) -> String {
         3 => "pduSize below 9 or above 2048",
         4 => "type above 4",
         5 => "messageCount 0, or not 1 for a keep-alive",
-        6 => "data that do not fit their type",
+        6 => "data that do not fit their type, or a count without bytes",
         _ => "unknown",
     };
     format!("fault {number} ({words})")
@@ -174,6 +174,10 @@ mod tests {
         assert_eq!(status(0), "status 0 (done)");
         assert_eq!(status(3), "status 3 (another connection holds it)");
         assert_eq!(fault(1), "fault 1 (first byte not 3B)");
+        assert_eq!(
+            fault(6),
+            "fault 6 (data that do not fit their type, or a count without bytes)"
+        );
         assert_eq!(refusal(5), "refusal 5 (TableFull)");
     }
 

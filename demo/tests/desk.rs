@@ -1,5 +1,6 @@
 //! The amplifier over real sockets.
 
+mod announce;
 mod hall;
 mod reset;
 

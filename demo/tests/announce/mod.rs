@@ -1,0 +1,316 @@
+//! A count without bytes, over real sockets.
+
+use super::hall::{Hall, Log, PATIENCE, Peer, get, lock, reply};
+use super::program;
+use compare::harness::traffic;
+use demo::script;
+use demo::session::{Next, Session};
+use std::io::{Read, Write};
+use std::net::{Ipv4Addr, SocketAddr, TcpListener, TcpStream};
+use std::thread;
+use std::time::Instant;
+
+const FAULT: &str = "fault 6 (data that do not fit their type, or a count without bytes)";
+const SENT: &str = "one parameter and no byte of it: the writer gives refusal 11 (BadEntry); \
+    sends 27 bytes all the same";
+
+/// A controller that is told what to do, and the lines that it prints.
+struct Controller {
+    session: Session<Log>,
+    lines: Log,
+}
+
+impl Controller {
+    fn new(address: SocketAddr) -> Controller {
+        let lines = Log::default();
+        let session = Session::new(address, lines.clone());
+        Controller { session, lines }
+    }
+
+    fn obey(&mut self, text: &str) {
+        let next = self.session.obey(script::parse(text).unwrap()).unwrap();
+        assert_eq!(next, Next::More);
+    }
+
+    /// Listens until a line has these words.
+    fn hear(&mut self, words: &str) {
+        let start = Instant::now();
+        while !self.lines.has(words) {
+            assert!(start.elapsed() < PATIENCE, "{}", self.lines.text());
+            self.obey("wait 5");
+        }
+    }
+
+    /// The lines without their times, of this name alone.
+    fn said(&self, name: &str) -> Vec<String> {
+        let text = self.lines.text();
+        let said = text.lines().map(|line| line.split_once(" ms  ").unwrap().1);
+        let named = said.filter_map(|line| line.strip_prefix(&format!("{name}: ")));
+        named.map(str::to_string).collect()
+    }
+}
+
+/// Its own lock is freed; its mute, and whatever another has, stay; it may come again.
+#[test]
+fn an_announced_entry_closes_its_connection_alone() {
+    let hall = Hall::open();
+    let mut controller = Controller::new(hall.address);
+    controller.obey("as panel lock 6 mute 6 as tablet mute 4 lock 5 announce 3");
+    let (_, line) = hall.log.line("closed connection");
+    assert_eq!(
+        line,
+        format!("closed connection 1: {FAULT}; mute 5 is free")
+    );
+    controller.obey("as panel lock 3 lock 5 lock 6 get 6 get 4 as tablet lock 6 lock 2");
+    let closed = format!("announce 3: closed; the reader gives these bytes {FAULT}");
+    let tablet = [
+        "connected",
+        "mute 4: status 0 (done)",
+        "lock 5: status 0 (done)",
+        &format!("announce 3: {SENT}"),
+        "closed by the amplifier",
+        &closed,
+        "connected",
+        "lock 6: status 3 (another connection holds it)",
+        "lock 2: status 0 (done)",
+    ];
+    assert_eq!(controller.said("tablet"), tablet);
+    let panel = [
+        "connected",
+        "lock 6: status 0 (done)",
+        "mute 6: status 0 (done)",
+        "lock 3: status 0 (done)",
+        "lock 5: status 0 (done)",
+        "lock 6: status 0 (done)",
+        "get 6: status 0 (done), muted",
+        "get 4: status 0 (done), muted",
+    ];
+    assert_eq!(controller.said("panel"), panel);
+    drop(controller);
+    let text = hall.end();
+    assert_eq!(text.matches("fault 6").count(), 1);
+    assert!(!text.contains("connection 1 locked mute 3"), "{text}");
+}
+
+/// Every mute, one after another, whether or not another holds it: each time closed, each time let in again.
+#[test]
+fn every_mute_may_be_announced() {
+    let hall = Hall::open();
+    let mut controller = Controller::new(hall.address);
+    controller.obey("as panel lock 2 lock 8 as tablet beat 30");
+    for mute in 1..=8 {
+        controller.obey(&format!("announce {mute}"));
+    }
+    controller.obey("get 8");
+    let said = controller.said("tablet");
+    let count = |words: &str| said.iter().filter(|line| line.contains(words)).count();
+    assert_eq!(count("connected"), 9);
+    assert_eq!(count("closed by the amplifier"), 8);
+    assert_eq!(count(FAULT), 8);
+    assert_eq!(said.last().unwrap(), "get 8: status 0 (done), unmuted");
+    drop(controller);
+    let text = hall.end();
+    assert_eq!(text.matches(&format!("1: {FAULT}\n")).count(), 8, "{text}");
+}
+
+/// Mute 5 muted and mute 6 locked in one message, whose second command announces and gives nothing.
+#[test]
+fn no_command_of_that_message_is_run() {
+    let message = "3B0001 0000002C 01 0002 \
+        00000012 00000021 00001005 00040002 01 01 \
+        00000011 00000022 00001006 00010003 01"
+        .replace(' ', "");
+    for cut in [2, 20, 56, 88] {
+        let hall = Hall::open();
+        let mut controller = Controller::new(hall.address);
+        let (first, second) = message.split_at(cut);
+        controller.obey(&format!("bytes {first} wait 20"));
+        assert!(!hall.log.has("closed"));
+        controller.obey(&format!("bytes {second}"));
+        controller.hear("closed by the amplifier");
+        controller.obey("get 5 as panel lock 6");
+        let tablet = controller.said("tablet");
+        assert_eq!(
+            tablet[3..],
+            [
+                "closed by the amplifier",
+                "connected",
+                "get 5: status 0 (done), unmuted"
+            ]
+        );
+        assert!(controller.lines.has("panel: lock 6: status 0 (done)"));
+        drop(controller);
+        let text = hall.end();
+        assert!(
+            text.contains(&format!("closed connection 0: {FAULT}\n")),
+            "{text}"
+        );
+        assert!(!text.contains("muted mute"), "{text}");
+        assert!(!text.contains("connection 0 locked"), "{text}");
+    }
+}
+
+/// Sent before the message that closes, a sound one is run and answered; sent after it, nothing is.
+#[test]
+fn messages_before_it_are_run_and_those_after_it_not() {
+    let hall = Hall::open();
+    let mut tablet = hall.connect(0);
+    let mut announced = traffic::message(1, &[lock(8, 6)]);
+    *announced.last_mut().unwrap() = 1;
+    let before = traffic::message(1, &[lock(7, 5)]);
+    let after = traffic::message(1, &[lock(9, 7)]);
+    tablet.send(&[before, announced, after].concat());
+    tablet.expect(&reply(7, 0, 0, &[]));
+    assert!(tablet.is_closed());
+    let (_, line) = hall.log.line("closed connection 0");
+    assert_eq!(
+        line,
+        format!("closed connection 0: {FAULT}; mute 5 is free")
+    );
+    let mut panel = hall.connect(0);
+    for mute in 5..=7 {
+        panel.ask(&lock(mute, mute), 0);
+    }
+    panel.send(&traffic::message(1, &[get(1, 5)]));
+    panel.expect(&reply(1, 0, 1, &[2]));
+    assert_eq!(hall.end().matches("connection 0 locked mute 7").count(), 1);
+}
+
+/// A message without the byte, and its neighbours that are sound: with one byte, and with the count that has none.
+struct Kind {
+    without: &'static str,
+    with: &'static str,
+    none: &'static str,
+    /// What the closure frees: mute 7, and mute 5 where the last neighbour locked it.
+    freed: &'static str,
+}
+
+const KINDS: [Kind; 4] = [
+    // a command that wants no reply
+    Kind {
+        without: "3B0001 0000001A 00 0001 00000011 00000077 00001005 00010003 01",
+        with: "3B0001 0000001B 00 0001 00000012 00000077 00001005 00010003 01 00",
+        none: "3B0001 0000001A 00 0001 00000011 00000077 00001005 00010003 00",
+        freed: "mutes 5, 7 are free",
+    },
+    // a command that wants one, of which the count is as high as it goes
+    Kind {
+        without: "3B0001 0000001A 01 0001 00000011 00000077 00001005 00010003 FF",
+        with: "3B0001 0000001B 01 0001 00000012 00000077 00001005 00010003 FF 00",
+        none: "3B0001 0000001A 01 0001 00000011 00000077 00001005 00010003 00",
+        freed: "mutes 5, 7 are free",
+    },
+    // a notification, whose count is one more
+    Kind {
+        without: "3B0001 00000022 02 0001 00000019 00000009 00030001 02 01020304 00001005 00010001",
+        with: "3B0001 00000023 02 0001 0000001A 00000009 00030001 02 01020304 00001005 00010001 01",
+        none: "3B0001 00000022 02 0001 00000019 00000009 00030001 01 01020304 00001005 00010001",
+        freed: "mute 7 is free",
+    },
+    // a response
+    Kind {
+        without: "3B0001 00000013 03 0001 0000000A 00000077 00 01",
+        with: "3B0001 00000014 03 0001 0000000B 00000077 00 01 05",
+        none: "3B0001 00000013 03 0001 0000000A 00000077 00 00",
+        freed: "mute 7 is free",
+    },
+];
+
+/// Entries of every kind; the connection is the first one still, after both neighbours.
+#[test]
+fn every_kind_of_entry_needs_a_byte_for_its_count() {
+    for kind in KINDS {
+        let [without, with, none] =
+            [kind.without, kind.with, kind.none].map(|hex| hex.replace(' ', ""));
+        let hall = Hall::open();
+        let mut controller = Controller::new(hall.address);
+        controller.obey(&format!("bytes {with} get 5 bytes {none} get 6 lock 7"));
+        assert!(!hall.log.has("closed"), "{with} {none}");
+        controller.obey(&format!("bytes {without}"));
+        controller.hear("closed by the amplifier");
+        let said = controller.said("tablet");
+        assert_eq!(said.iter().filter(|line| *line == "connected").count(), 1);
+        let (_, line) = hall.log.line("closed connection 0");
+        let freed = kind.freed;
+        assert_eq!(line, format!("closed connection 0: {FAULT}; {freed}"));
+        drop(controller);
+        hall.end();
+    }
+}
+
+/// Hears one announced lock; answers the bytes.
+fn heard(stream: &mut TcpStream) -> [u8; 27] {
+    let mut bytes = [0; 27];
+    stream.read_exact(&mut bytes).unwrap();
+    bytes
+}
+
+/// One that answers, then says nothing, then closes: none of it ends the controller.
+fn unlike(listener: &TcpListener) {
+    let (mut stream, _) = listener.accept().unwrap();
+    for handle in 1..=3 {
+        let mut expected = traffic::message(1, &[lock(handle, handle)]);
+        expected[26] = 1;
+        assert_eq!(heard(&mut stream), expected[..]);
+        if handle == 1 {
+            stream.write_all(&reply(1, 4, 0, &[])).unwrap();
+        }
+    }
+    drop(stream);
+    let mut again = Peer {
+        stream: listener.accept().unwrap().0,
+    };
+    again.expect(&traffic::message(1, &[lock(1, 4)]));
+    again.send(&reply(1, 0, 0, &[]));
+}
+
+/// An amplifier that knows nothing of the rule, and one that hangs.
+#[test]
+fn whatever_comes_the_controller_goes_on() {
+    let listener = TcpListener::bind((Ipv4Addr::LOCALHOST, 0)).unwrap();
+    let mut controller = Controller::new(listener.local_addr().unwrap());
+    let other = thread::spawn(move || unlike(&listener));
+    controller.obey("announce 1 announce 2 announce 3 lock 4");
+    other.join().unwrap();
+    let sent = |mute| format!("announce {mute}: {SENT}");
+    let came =
+        |mute, came| format!("announce {mute}: {came}; the reader gives these bytes {FAULT}");
+    let expected = [
+        "connected",
+        &sent(1),
+        &came(1, "status 4 (wrong count or length)"),
+        &sent(2),
+        &came(2, "neither closed nor answered"),
+        &sent(3),
+        "closed by the amplifier",
+        &came(3, "closed"),
+        "connected",
+        "lock 4: status 0 (done)",
+    ];
+    assert_eq!(controller.said("tablet"), expected);
+}
+
+/// The program itself: it goes on after the closure, and ends well; a mute that there is not, and it prints its commands.
+#[test]
+fn the_program_announces() {
+    let hall = Hall::open();
+    let port = hall.address.port().to_string();
+    let run = |words: &[&str]| {
+        let mut command = program(env!("CARGO_BIN_EXE_controller"));
+        command.arg(&port).args(words).output().unwrap()
+    };
+    let output = run(&["lock", "5", "announce", "5", "lock", "5", "quit"]);
+    let said = String::from_utf8(output.stdout).unwrap();
+    assert_eq!(output.status.code(), Some(0), "{said}");
+    assert_eq!(said.lines().count(), 7, "{said}");
+    assert!(
+        said.ends_with("tablet: lock 5: status 0 (done)\n"),
+        "{said}"
+    );
+    let output = run(&["announce", "9"]);
+    let said = String::from_utf8(output.stderr).unwrap();
+    assert_eq!(output.status.code(), Some(2), "{said}");
+    assert!(said.starts_with("controller: 'announce 9' is no command\nusage"));
+    assert!(said.contains("\n  announce N "), "{said}");
+    hall.end();
+}
