@@ -352,6 +352,42 @@ static void reading(void)
     expect("count", e.count, 36);
 }
 
+/* One entry of that type, count and so many parameter bytes: started, read and delivered as it fits or not. */
+static void counted(uint8_t kind, uint8_t count, uint8_t bytes)
+{
+    static const uint8_t least[4] = {17, 17, 25, 10}, place[4] = {16, 16, 12, 9};
+    uint8_t none = kind == MELORWYTH_TYPE_NOTIFICATION;
+    int fits = count >= none && (count == none) == (bytes == 0);
+    uint8_t whole[40] = {0x3B, 0, 1, 0, 0, 0, (uint8_t)(9 + least[kind] + bytes), kind, 0, 1};
+    size_t length = 10u + least[kind] + bytes;
+    whole[13] = (uint8_t)(least[kind] + bytes);
+    whole[10 + place[kind]] = count;
+    melorwyth_written w = melorwyth_start(message, sizeof message, kind, whole + 10, length - 10);
+    expect("started", w.number, fits ? MELORWYTH_DONE : MELORWYTH_BAD_ENTRY);
+    melorwyth_entry e = melorwyth_read_entry(whole, length, 0);
+    expect("read", e.number, fits ? MELORWYTH_DONE : MELORWYTH_FAULT);
+    expect("its fault", e.fault, fits ? 0 : MELORWYTH_FAULT_DATA);
+    expect("its count", e.count, fits ? count : 0);
+    expect("its part", melorwyth_entry_part(whole, length, 0).length, fits ? bytes : 0);
+    melorwyth_opened o = melorwyth_open(record);
+    melorwyth_delivered d =
+        melorwyth_deliver(o.record, area, sizeof area, o.connection, whole, length, output, sizeof output);
+    expect("delivered", d.number, MELORWYTH_DONE);
+    expect("its kind", d.kind, fits ? MELORWYTH_MESSAGE : MELORWYTH_CLOSED);
+    expect("its fault", d.fault, fits ? 0 : MELORWYTH_FAULT_DATA);
+    expect("still open", d.record.device.connections[o.connection].live, fits);
+}
+
+/* No parameters and no parameter bytes are the same, for each type. */
+static void counts(void)
+{
+    static const uint8_t given[4] = {0, 1, 2, 255};
+    for (uint8_t kind = 0; kind < 4; kind++)
+        for (int c = 0; c < 4; c++)
+            for (uint8_t bytes = 0; bytes < 3; bytes++)
+                counted(kind, given[c], bytes);
+}
+
 /* The other fields of reader and writer, and their refusals. */
 static void refusals(void)
 {
@@ -397,6 +433,7 @@ int main(void)
     closures();
     reset();
     reading();
+    counts();
     refusals();
     return verdict("fields");
 }

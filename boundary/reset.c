@@ -73,7 +73,8 @@ static void statuses(void)
     for (unsigned count = 1; count < 256; count++)
         if (count != 2)
             expect("a wrong count", ask(0, DEVICE_MANAGER, SET_RESET_KEY, (uint8_t)count, parameters, length), 4);
-    for (size_t other = 0; other < sizeof parameters; other++)
+    /* not 0: a count without bytes closes the connection */
+    for (size_t other = 1; other < sizeof parameters; other++)
         if (other != length)
             expect("a wrong length", ask(0, DEVICE_MANAGER, SET_RESET_KEY, 2, parameters, other), 4);
     parameters[16] = 1;

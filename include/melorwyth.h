@@ -172,7 +172,9 @@ extern "C" {
 /* Writer: the message would pass pduSize 2,048. */
 #define MELORWYTH_TOO_LONG 10
 /* Writer: no well formed entry, or not of the message's type, or appended to a keep-alive;
-   or a keep-alive of no known form, or in seconds with a value above 65,535. */
+   or a keep-alive of no known form, or in seconds with a value above 65,535.
+   An entry without parameters has count 0, in a notification 1, and no parameter byte;
+   with a higher count it has at least one. */
 #define MELORWYTH_BAD_ENTRY 11
 /* Reader: the entry's number is not below the message's count, or it is a keep-alive. */
 #define MELORWYTH_NO_ENTRY 12
@@ -189,7 +191,8 @@ extern "C" {
 #define MELORWYTH_FAULT_TYPE 4
 /* messageCount is 0, or not 1 for a keep-alive. */
 #define MELORWYTH_FAULT_COUNT 5
-/* The entries do not fill the data, one is not well formed, or a keep-alive has other than 2 or 4 bytes. */
+/* The entries do not fill the data, one is not well formed (a count without bytes is not: see 11),
+   or a keep-alive has other than 2 or 4 bytes. */
 #define MELORWYTH_FAULT_DATA 6
 
 /* ---- types of messages and entries --------------------------------------- */
@@ -328,7 +331,7 @@ typedef struct melorwyth_entry {
     uint32_t target;       /* command, notification */
     uint16_t level;        /* the method's level: command, notification */
     uint16_t index;        /* the method's index */
-    uint8_t count;         /* the parameter count */
+    uint8_t count;         /* the parameter count: 0, in a notification 1, exactly where the part is empty */
     uint8_t status;        /* response */
     uint32_t context;      /* notification, as are the fields below */
     uint32_t emitter;
