@@ -13,8 +13,10 @@ use Rattle.laws.proofs.Parts.{nil-of}
 use Rattle.numbers.specs.Refusal.{fault, badEntry}
 use Rattle.numbers.specs.Fault.{faultData}
 use Rattle.frame.specs.Limits.{headerEnd, keepAlive}
-use Rattle.frame.specs.Header.{pduType, messageCount, messageLength}
-use Rattle.frame.specs.Entry.{leastEntry, entrySize, entriesFill, wellFormed}
+use Rattle.octets.specs.Numbers.{be16At, be32At}
+use Rattle.octets.specs.Zeros.{zeros}
+use Rattle.frame.specs.Header.{pduType, messageCount, messageLength, countFault, fieldsFault, headerFault}
+use Rattle.frame.specs.Entry.{leastEntry, countPlace, leastCount, countFits, entryFits, entrySize, entriesFill, wellFormed}
 use Rattle.frame.specs.Decide.{dataSound, decideData, decide}
 use Rattle.frame.specs.declared.Decision.{Decision}
 use Rattle.frame.specs.declared.Decision.the-variants.{Faulty, Sound}
@@ -22,22 +24,27 @@ use Rattle.frame.proofs.Counts.{count-tells}
 use Rattle.frame.proofs.Headers.{sound-header}
 use Rattle.frame.proofs.Ways.{whole, way-back}
 use Rattle.frame.proofs.Sounds.{type-take, count-take}
+use Rattle.fields.specs.Place.{entriesFrom}
 use Rattle.fields.proofs.Places.{entries-get}
 use Rattle.reader.specs.Read.{dataOf, readBy, readOf}
 use Rattle.reader.specs.Entry.{entryBy, entryOf, partBy, partOf}
 use Rattle.writer.specs.Numbers.{Writing, writtenNumbers}
 use Rattle.writer.specs.Write.{leastRoom, unwritten, startOf, appendSound, appendOf}
 use Rattle.writer.proofs.Outcomes.{append-sound, append-fault}
-use Rattle.area.specs.Area.{undecidedOf}
+use Rattle.area.specs.Area.{areaBytes, undecidedOf}
 use Rattle.replies.specs.Bytes.{leastOutput}
 use Rattle.delivery.specs.Intake.{deliveredBy, takenIn}
-use Rattle.endpoint.specs.State.{closedState}
+use Rattle.endpoint.specs.State.{freshState, closedState}
+use Rattle.endpoint.specs.Calls.{openCall}
 use Rattle.endpoint.specs.Deliver.{heldAt, withIntake, deliverCall}
 use Rattle.endpoint.specs.declared.Record.{Record}
 use Rattle.split.specs.Split.{soundMessages}
 use Rattle.lines.specs.Text.{stopLine}
 use Rattle.lister.specs.Listing.{linesOf, lastBy, lastLine, listedBytes, unlisted, listingFrom, listing}
+use Rattle.sent.specs.Longest.{Unrefused}
+use Rattle.sent.proofs.Longest.{longest-reached}
 use Rattle.counts.specs.Announced.{Announced, bytesFrom, Announces}
+use Rattle.counts.specs.Worked.{announcedLock, setThenAnnounced}
 use Rattle.counts.specs.Refused.{Delivers, behindFault, closedForData, CountWithoutBytes}
 
 -- ---- the message
@@ -129,6 +136,50 @@ listed s i a =
     ap (λ (d : Decision). linesOf 0 (soundMessages s) ++ lastBy d (0 + listedBytes s) (length (unlisted s))) (decided (unlisted s) i a)
     ∙ rw zero-add
 
+-- ---- such messages
+alone : Announces announcedLock 0
+unfolding headerFault fieldsFault countFault be16At be32At entriesFrom leastEntry leastCount countPlace
+alone =
+    record {
+      first = refl;
+      header = refl;
+      whole = omega arith;
+      type = omega arith;
+      there = omega arith;
+      size = refl;
+      count = omega arith;
+    }
+
+second : Announces setThenAnnounced 1
+unfolding headerFault fieldsFault countFault be16At be32At entriesFrom entrySize entryFits countFits leastEntry leastCount countPlace
+second =
+    record {
+      first = refl;
+      header = refl;
+      whole = omega arith;
+      type = omega arith;
+      there = omega arith;
+      size = refl;
+      count = omega arith;
+    }
+
+-- to a connection that has no undecided byte
+closed-whole : (r : Record) (area : List ℕ) (n : ℕ) (m out : List ℕ) (i : ℕ) → Unrefused r area n out → Announces m i
+    → deliverCall r area n m out ≡ closedForData r area n (messageLength m) out
+unfolding undecidedOf
+closed-whole r area n m out i w a =
+    let z : undecidedOf area n (heldAt r n) ++ m ≡ m = rw (w .empty) refl in
+    let d : Delivers r area n out = record { obeying = w .obeying; lying = w .lying; living = w .living; roomy = w .roomy } in
+    let t : messageLength m - heldAt r n ≡ messageLength m = omega (arith, w .empty) in
+    rw (z, t) at (delivered r area n m out i d (rw z a))
+
+fresh : (reading : ℕ) (out : List ℕ) → leastOutput ≤ length out
+    → deliverCall (openCall (freshState reading) .state) (zeros areaBytes) 0 setThenAnnounced out
+    ≡ closedForData (openCall (freshState reading) .state) (zeros areaBytes) 0 45 out
+unfolding be32At
+fresh reading out room =
+    closed-whole (openCall (freshState reading) .state) (zeros areaBytes) 0 setThenAnnounced out 1 (longest-reached .fresh reading out room) second
+
 pub count-without-bytes : CountWithoutBytes
 count-without-bytes =
     record {
@@ -141,4 +192,7 @@ count-without-bytes =
       behind = behind;
       delivered = delivered;
       listed = listed;
+      alone = alone;
+      second = second;
+      fresh = fresh;
     }

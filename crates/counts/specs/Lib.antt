@@ -1,4 +1,4 @@
 pub mod Announced
+pub mod Worked
 pub mod Refused
 pub mod Told
-pub mod Worked

@@ -15,17 +15,20 @@ use Rattle.reader.specs.Read.{readOf}
 use Rattle.reader.specs.Entry.{entryOf, partOf}
 use Rattle.writer.specs.Numbers.{Writing}
 use Rattle.writer.specs.Write.{leastRoom, unwritten, startOf, appendOf}
-use Rattle.area.specs.Area.{areaSound, undecidedOf, partCleared}
+use Rattle.octets.specs.Zeros.{zeros}
+use Rattle.area.specs.Area.{areaBytes, areaSound, undecidedOf, partCleared}
 use Rattle.connection.specs.State.{liveAt}
 use Rattle.replies.specs.Bytes.{leastOutput}
-use Rattle.endpoint.specs.State.{recordObeys, closedState}
+use Rattle.endpoint.specs.State.{freshState, recordObeys, closedState}
 use Rattle.endpoint.specs.Outcome.{Outcome, outcome}
+use Rattle.endpoint.specs.Calls.{openCall}
 use Rattle.endpoint.specs.Deliver.{heldAt, deliverCall}
 use Rattle.endpoint.specs.declared.Record.{Record}
 use Rattle.split.specs.Split.{soundMessages}
 use Rattle.lines.specs.Text.{stopLine}
 use Rattle.lister.specs.Listing.{linesOf, listedBytes, unlisted, listing}
 use Rattle.counts.specs.Announced.{Announced, Announces}
+use Rattle.counts.specs.Worked.{announcedLock, setThenAnnounced}
 
 -- R63. Nothing refuses a delivery to connection n: rows 1 to 4 do not apply.
 pub record Delivers (r : Record) (area : List ℕ) (n : ℕ) (out : List ℕ) : Type 0 where
@@ -66,3 +69,9 @@ pub record CountWithoutBytes : Type 0 where
   -- the listing: the lines of the sound messages before it, and where it stops
   pub listed : (s : List ℕ) (i : ℕ) → Announces (unlisted s) i
       → listing s ≡ linesOf 0 (soundMessages s) ++ stopLine (listedBytes s) faultData
+  -- there are such messages; behind a set, to the first connection of a fresh record: it is closed, and nothing is set
+  pub alone : Announces announcedLock 0
+  pub second : Announces setThenAnnounced 1
+  pub fresh : (reading : ℕ) (out : List ℕ) → leastOutput ≤ length out
+      → deliverCall (openCall (freshState reading) .state) (zeros areaBytes) 0 setThenAnnounced out
+      ≡ closedForData (openCall (freshState reading) .state) (zeros areaBytes) 0 45 out

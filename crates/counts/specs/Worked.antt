@@ -30,6 +30,14 @@ notificationCounting size count part =
 abbrev pub framedBy : ℕ → ℕ → ℕ → List ℕ → List ℕ
 framedBy size kind count body = 0x3B ∷ 0x00 ∷ 0x01 ∷ 0x00 ∷ 0x00 ∷ 0x00 ∷ size ∷ kind ∷ 0x00 ∷ count ∷ body
 
+-- R83. That lock, announcing one parameter, in a message of its own.
+abbrev pub announcedLock : List ℕ
+announcedLock = framedBy 0x1A 0x01 0x01 (lockCounting 1)
+
+-- R83. The set, and behind it that lock.
+abbrev pub setThenAnnounced : List ℕ
+setThenAnnounced = framedBy 0x2C 0x01 0x02 (setToMuted ++ lockCounting 1)
+
 -- R19, R20, R21. A row of a message that is refused: 8 with fault 6, for the message and its entry 0, and no part.
 abbrev pub refusedRow : List ℕ → Example
 refusedRow bytes = record { bytes = bytes; reads = 8 ∷ 6 ∷ []; first = 8 ∷ 6 ∷ []; part = [] }
@@ -37,9 +45,9 @@ refusedRow bytes = record { bytes = bytes; reads = 8 ∷ 6 ∷ []; first = 8 ∷
 -- R12, R83. Commands of both types, a command behind a sound one, responses and notifications.
 abbrev pub countRows : List Example
 countRows =
-    refusedRow (framedBy 0x1A 0x01 0x01 (lockCounting 1))
+    refusedRow announcedLock
     ∷ refusedRow (framedBy 0x1A 0x00 0x01 (lockCounting 255))
-    ∷ refusedRow (framedBy 0x2C 0x01 0x02 (setToMuted ++ lockCounting 1))
+    ∷ refusedRow setThenAnnounced
     ∷ record {
       bytes = framedBy 0x2C 0x01 0x02 (setToMuted ++ lockCounting 0);
       reads = 0 ∷ 45 ∷ 1 ∷ 2 ∷ [];
