@@ -92,7 +92,7 @@ datagramRow d g answer = row (rule d (asked (datagram g)) .1 .answer) (resetting
 abbrev pub closedRow : List ℕ → Row
 closedRow m = row (told (rule (twoOpen 0) (handed 0 m []) .1)) (deliveryNumbers (deliveries.Closed (length m) faultData))
 
--- R71, R73. Statuses 0, 7 and 4 of 3.14, 11 on another object, and a 3.14 that is no message.
+-- R71, R73. Statuses 0, 7 and 4 of 3.14, 11 on another object, and a 3.14 that closes its connection.
 abbrev pub statusRows : List Row
 statusRows =
     statusRow (arguments keyA 0 [] 50000) carriedOut
