@@ -41,11 +41,11 @@ use Rattle.endpoint.specs.declared.Record.{Record}
 use Rattle.split.specs.Split.{soundMessages}
 use Rattle.lines.specs.Text.{stopLine}
 use Rattle.lister.specs.Listing.{linesOf, lastBy, lastLine, listedBytes, unlisted, listingFrom, listing}
-use Rattle.sent.specs.Longest.{Unrefused}
-use Rattle.sent.proofs.Longest.{longest-reached}
+use Rattle.sent.specs.Longest.{Delivers, Unrefused}
+use Rattle.sent.proofs.Longest.{passed, longest-reached}
 use Rattle.counts.specs.Announced.{Announced, bytesFrom, Announces}
 use Rattle.counts.specs.Worked.{announcedLock, setThenAnnounced}
-use Rattle.counts.specs.Refused.{Delivers, behindFault, closedForData, CountWithoutBytes}
+use Rattle.counts.specs.Refused.{behindFault, closedForData, CountWithoutBytes}
 
 -- ---- the message
 module _ (s : List ℕ) (i : ℕ) (a : Announces s i) where
@@ -123,11 +123,11 @@ delivered : (r : Record) (area : List ℕ) (n : ℕ) (piece out : List ℕ) (i :
     → Announces (undecidedOf area n (heldAt r n) ++ piece) i
     → deliverCall r area n piece out
     ≡ closedForData r area n (messageLength (undecidedOf area n (heldAt r n) ++ piece) - heldAt r n) out
-unfolding deliverCall takenIn deliveredBy closedState
+unfolding takenIn deliveredBy closedState
 delivered r area n piece out i d a =
     let bytes = undecidedOf area n (heldAt r n) ++ piece in
-    simp (d .obeying, d .lying, d .living, le-ltb (length out) leastOutput (d .roomy))
-    (ap (λ (x : Decision). withIntake r n (deliveredBy x (r .device) area n (heldAt r n) piece bytes out)) (decided bytes i a))
+    passed r area n out d piece
+    ∙ ap (λ (x : Decision). withIntake r n (deliveredBy x (r .device) area n (heldAt r n) piece bytes out)) (decided bytes i a)
 
 -- ---- the listing
 listed : (s : List ℕ) (i : ℕ) → Announces (unlisted s) i → listing s ≡ linesOf 0 (soundMessages s) ++ stopLine (listedBytes s) faultData
@@ -169,9 +169,8 @@ closed-whole : (r : Record) (area : List ℕ) (n : ℕ) (m out : List ℕ) (i : 
 unfolding undecidedOf
 closed-whole r area n m out i w a =
     let z : undecidedOf area n (heldAt r n) ++ m ≡ m = rw (w .empty) refl in
-    let d : Delivers r area n out = record { obeying = w .obeying; lying = w .lying; living = w .living; roomy = w .roomy } in
     let t : messageLength m - heldAt r n ≡ messageLength m = omega (arith, w .empty) in
-    rw (z, t) at (delivered r area n m out i d (rw z a))
+    rw (z, t) at (delivered r area n m out i (w .delivers) (rw z a))
 
 fresh : (reading : ℕ) (out : List ℕ) → leastOutput ≤ length out
     → deliverCall (openCall (freshState reading) .state) (zeros areaBytes) 0 setThenAnnounced out

@@ -167,7 +167,7 @@ pub none-told : NoneTold
 none-told =
     record {
       command = command;
-      notification = notified;
+      notification = λ s i n h. let t = notified s i n h in (λ z. t .0 (omega (arith, z)), λ z. omega (arith, t .1 z));
       response = responded;
       takesNone = λ s i c h m z. both-tell m (c .count) (partOf s i) z (command s i c h);
     }

@@ -1,7 +1,6 @@
 -- A count without bytes is refused by the reader, the writer, a delivery and the listing: R12, R16, R19 to R26, R30, R79 together.
 use Prim.Native.Nat.{ℕ, _-_, _≤_}
 use mathlib.Core.Path.{_≡_}
-use mathlib.Core.Bool.{true}
 use mathlib.Core.List.{List, [], _∷_, _++_}
 use lib.ListN.{length}
 use Rattle.numbers.specs.Refusal.{fault, badEntry}
@@ -16,10 +15,9 @@ use Rattle.reader.specs.Entry.{entryOf, partOf}
 use Rattle.writer.specs.Numbers.{Writing}
 use Rattle.writer.specs.Write.{leastRoom, unwritten, startOf, appendOf}
 use Rattle.octets.specs.Zeros.{zeros}
-use Rattle.area.specs.Area.{areaBytes, areaSound, undecidedOf, partCleared}
-use Rattle.connection.specs.State.{liveAt}
+use Rattle.area.specs.Area.{areaBytes, undecidedOf, partCleared}
 use Rattle.replies.specs.Bytes.{leastOutput}
-use Rattle.endpoint.specs.State.{freshState, recordObeys, closedState}
+use Rattle.endpoint.specs.State.{freshState, closedState}
 use Rattle.endpoint.specs.Outcome.{Outcome, outcome}
 use Rattle.endpoint.specs.Calls.{openCall}
 use Rattle.endpoint.specs.Deliver.{heldAt, deliverCall}
@@ -27,15 +25,9 @@ use Rattle.endpoint.specs.declared.Record.{Record}
 use Rattle.split.specs.Split.{soundMessages}
 use Rattle.lines.specs.Text.{stopLine}
 use Rattle.lister.specs.Listing.{linesOf, listedBytes, unlisted, listing}
+use Rattle.sent.specs.Longest.{Delivers}
 use Rattle.counts.specs.Announced.{Announced, Announces}
 use Rattle.counts.specs.Worked.{announcedLock, setThenAnnounced}
-
--- R63. Nothing refuses a delivery to connection n: rows 1 to 4 do not apply.
-pub record Delivers (r : Record) (area : List ℕ) (n : ℕ) (out : List ℕ) : Type 0 where
-  pub obeying : recordObeys r ≡ true
-  pub lying : areaSound (r .held) area ≡ true
-  pub living : liveAt (r .device .connections) n ≡ true
-  pub roomy : leastOutput ≤ length out
 
 -- R26, R65. An append behind a message with fault 6: refusal 8 with it, and the buffer as it was.
 abbrev pub behindFault : List ℕ → Writing

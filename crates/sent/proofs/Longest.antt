@@ -49,7 +49,7 @@ use Rattle.endpoint.specs.Calls.{openedBy, openCall}
 use Rattle.endpoint.specs.Deliver.{heldAt, withIntake, deliverCall}
 use Rattle.endpoint.specs.declared.Record.{Record}
 use Rattle.sent.specs.Sent.{replyTo}
-use Rattle.sent.specs.Longest.{classCommand, classCommands, classMessage, Unrefused, LongestReached}
+use Rattle.sent.specs.Longest.{classCommand, classCommands, classMessage, Delivers, Unrefused, LongestReached}
 use Rattle.sent.proofs.Replies.{told-reply}
 
 -- ---- one command, with whatever stands behind it
@@ -139,11 +139,12 @@ module _ (k : ℕ) (some : 0 < k) (few : k ≤ 119) where
       ap length (told-reply d n m class-type) ∙ omega (arith, length-message 3 (messageCount m) body)
 
 -- ---- a delivery
-module _ (r : Record) (area : List ℕ) (n : ℕ) (out : List ℕ) (w : Unrefused r area n out) (m : List ℕ) (s : decide m ≡ Sound (length m)) where
-  passed : deliverCall r area n m out ≡ withIntake r n (takenIn (r .device) area n (heldAt r n) m out)
-  unfolding deliverCall
-  passed = rw (w .obeying, w .lying, w .living, le-ltb (length out) leastOutput (w .roomy))
+pub passed : (r : Record) (area : List ℕ) (n : ℕ) (out : List ℕ) → Delivers r area n out → (piece : List ℕ)
+    → deliverCall r area n piece out ≡ withIntake r n (takenIn (r .device) area n (heldAt r n) piece out)
+unfolding deliverCall
+passed r area n out w piece = rw (w .obeying, w .lying, w .living, le-ltb (length out) leastOutput (w .roomy))
 
+module _ (r : Record) (area : List ℕ) (n : ℕ) (out : List ℕ) (w : Unrefused r area n out) (m : List ℕ) (s : decide m ≡ Sound (length m)) where
   came : takenIn (r .device) area n (heldAt r n) m out ≡ messaged (soundOf (r .device) n m) area n (length m) out
   unfolding takenIn undecidedOf deliveredBy
   came =
@@ -152,7 +153,7 @@ module _ (r : Record) (area : List ℕ) (n : ℕ) (out : List ℕ) (w : Unrefuse
 
   told : deliverCall r area n m out .answer ≡ deliveryNumbers (Message (length m) (length (replyTo (r .device) n m)))
   unfolding messaged
-  told = ap (λ (o : Outcome). o .answer) (passed ∙ ap (withIntake r n) came)
+  told = ap (λ (o : Outcome). o .answer) (passed r area n out (w .delivers) m ∙ ap (withIntake r n) came)
 
 -- ---- a fresh record, its first connection just opened
 fresh-obeys : (reading : ℕ) → recordObeys (freshState reading) ≡ true
@@ -207,12 +208,14 @@ fresh-ready reading out h =
     let d = openOf (freshOf reading) .device in
     rw (opened-first reading)
     (record {
-      obeying =
-          and-both (deviceObeys d) (heldObeys (livesIn d) (zeros connectionCount)) (rules-kept .opening (freshOf reading) (rules-kept .fresh reading)) (opened-lives reading);
-      lying = area-zero connectionCount;
-      living = opened-live reading;
+      delivers = record {
+        obeying =
+            and-both (deviceObeys d) (heldObeys (livesIn d) (zeros connectionCount)) (rules-kept .opening (freshOf reading) (rules-kept .fresh reading)) (opened-lives reading);
+        lying = area-zero connectionCount;
+        living = opened-live reading;
+        roomy = h;
+      };
       empty = held-zero;
-      roomy = h;
     })
 
 pub longest-reached : LongestReached

@@ -34,13 +34,17 @@ classCommands (suc k) = classCommand ++ classCommands k
 abbrev pub classMessage : ℕ → List ℕ
 classMessage k = message commandWantingReply k (classCommands k)
 
--- R28, R63. A delivery to connection n that nothing refuses, where no byte of it is undecided.
-pub record Unrefused (r : Record) (area : List ℕ) (n : ℕ) (out : List ℕ) : Type 0 where
+-- R28, R63. Nothing refuses a delivery to connection n: rows 1 to 4 do not apply.
+pub record Delivers (r : Record) (area : List ℕ) (n : ℕ) (out : List ℕ) : Type 0 where
   pub obeying : recordObeys r ≡ true
   pub lying : areaSound (r .held) area ≡ true
   pub living : liveAt (r .device .connections) n ≡ true
-  pub empty : heldAt r n ≡ 0
   pub roomy : leastOutput ≤ length out
+
+-- R28, R63. Nor is a byte of the connection undecided.
+pub record Unrefused (r : Record) (area : List ℕ) (n : ℕ) (out : List ℕ) : Type 0 where
+  pub delivers : Delivers r area n out
+  pub empty : heldAt r n ≡ 0
 
 -- Theorem. The message of 119 of them is sound, and gets a reply of 2,628 bytes, whatever the device.
 pub record LongestReached : Type 0 where
