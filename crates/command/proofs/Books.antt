@@ -4,29 +4,31 @@ use mathlib.Core.Path.{_≡_, refl, sym, ap, _∙_}
 use mathlib.Core.Bool.{Bool, true, false, cond, not}
 use mathlib.Core.List.{List, [], _∷_}
 use native.Mathlib.Omega.{arith}
-use borrow.Author.Tests.{lt-ltb, ltb-true, ltb-false, eqb-true, ne-eqb, not-true, not-false}
-use lib.Dec.{ltb}
+use borrow.Author.Tests.{lt-ltb, ltb-true, ltb-false, eqb-true, eqb-false, ne-eqb, not-true, not-false}
+use lib.Dec.{ltb, eqb}
 use lib.ListN.{length, drop, getD, set, List·getD-eq-default, drop-of-length-le}
 use lib.Seq.{set-getD, drop-cons}
 use Rattle.laws.specs.Lists.{index}
 use Rattle.laws.proofs.Conds.{either, and-left, and-right}
 use Rattle.laws.proofs.Tables.{clash, getD-any}
-use Rattle.octets.specs.Numbers.{be32At}
+use Rattle.octets.specs.Zeros.{zeros}
+use Rattle.frame.specs.Limits.{greatestContext}
 use Rattle.mechanism.specs.Arguments.{isMisfit, armingOf}
 use Rattle.mechanism.specs.declared.Arming.{Arming}
 use Rattle.mechanism.specs.declared.Mechanism.{Mechanism}
-use Rattle.subscription.specs.Setters.{withContext}
+use Rattle.subscription.specs.Setters.{withContext, withoutContext}
 use Rattle.subscription.specs.State.{free, isTwin, isUnused, twinAt, lowestUnused}
-use Rattle.subscription.specs.Arguments.{subscriptionFrom, isStrange}
+use Rattle.subscription.specs.Arguments.{contextHeld, subscriptionFrom, isStrange}
 use Rattle.subscription.specs.declared.Subscription.{Subscription}
 use Rattle.objects.specs.Methods.{addMethod, removeMethod, resetKeyMethod, isSubscribing}
-use Rattle.objects.specs.Tests.{isMalformed, firstStatus}
+use Rattle.objects.specs.Tests.{isMalformed, contextGiven, isAddBad, firstStatus}
 use Rattle.objects.specs.Answers.{failedOf, answerWith}
 use Rattle.objects.specs.declared.Answer.{Answer}
+use Rattle.objects.proofs.Shapes.{add-held}
 use Rattle.device.specs.Setters.{withSubscriptions, withMechanism}
 use Rattle.device.specs.Run.{unchanged}
 use Rattle.device.specs.declared.Device.{Device}
-use Rattle.device.proofs.Commands.{add-strange, add-mode, add-twin, add-full, add-done, remove-strange, remove-none, remove-done, arm-bad, arm-done}
+use Rattle.device.proofs.Commands.{add-strange, add-bad, add-twin, add-full, add-done, remove-strange, remove-none, remove-done, arm-bad, arm-done}
 use Rattle.device.proofs.Shapes.{add-size, remove-size, arm-fits, add-formed, remove-formed, arm-formed, run-stopped, run-add, run-remove, run-arm}
 use Rattle.command.specs.Booking.{slotAt, slotFor, sameBooked, storedIn, bookedIn, Books, Subscribes, Unsubscribes, Arms}
 use Rattle.command.specs.declared.slot.Slot.{Slot}
@@ -165,14 +167,14 @@ module _ {s : Subscription} {i : ℕ} {l : List Subscription} {twin room : ℕ} 
       ap (λ (x : Subscription). record { place = place; entry = x }) (sym (List·getD-eq-default l free past)) ∙ sought
 
 -- the arguments' subscription has their context
-full : (n : ℕ) (part : List ℕ) → subscriptionFrom n part ≡ withContext (subscriptionFrom n part) (be32At part 16)
+full : (n : ℕ) (part : List ℕ) → subscriptionFrom n part ≡ withContext (subscriptionFrom n part) (contextGiven part) (contextHeld part)
 unfolding subscriptionFrom
 full n part = refl
 
 -- the context makes no difference to a slot
-slot-alike : (entries : List Subscription) (s : Subscription) (x : ℕ) → slotFor entries (withContext s x) ≡ slotFor entries s
+slot-alike : (entries : List Subscription) (s : Subscription) → slotFor entries (withoutContext s) ≡ slotFor entries s
 unfolding slotFor isTwin
-slot-alike entries s x = refl
+slot-alike entries s = refl
 
 -- an answer with the slot as it was
 same-whole : (entries : List Subscription) (s : Subscription) (slot : Slot) (a : Answer) (r : Booked) → r ≡ sameBooked slot a → slot ≡ slotFor entries s → (d : Device) → bookedIn d entries r ≡ unchanged (withSubscriptions d entries) a
@@ -181,6 +183,10 @@ same-whole entries s slot a r k q d =
     ∙ ap (λ (es : List Subscription). unchanged (withSubscriptions d es) a) (ap (storedIn entries) q ∙ stored-same entries s)
 
 -- ---- an add
+-- what was not refused has a context that can be held
+pub held-fits : (part : List ℕ) → isMalformed addMethod 5 part ≡ false → (v : Bool) → v ≡ isAddBad part → v ≡ false → (contextGiven part ≤ greatestContext) × (21 + contextGiven part ≤ length part)
+held-fits part f v ev e = (add-held part (sym ev ∙ e), omega (arith, add-size part f))
+
 module _ (slot : Slot) (wanted : Subscription) (part : List ℕ) (f : isMalformed addMethod 5 part ≡ false) (b : Bool) (q : b ≡ isStrange part) where
   pub subscribe-strange : b ≡ true → (a : Answer) → a ≡ failedOf 6 → (r : Booked) → r ≡ sameBooked slot a → Subscribes slot wanted part r
   subscribe-strange t a e r k =
@@ -188,20 +194,20 @@ module _ (slot : Slot) (wanted : Subscription) (part : List ℕ) (f : isMalforme
         books = λ entries n l w s. record { whole = λ d. same-whole entries wanted slot a r k s d ∙ add-strange (withSubscriptions d entries) n part f b q t a e };
       }
 
-  module _ (t : b ≡ false) where
-    pub subscribe-mode : (getD part 20 0 ≡ 1 → ⊥) → (a : Answer) → a ≡ failedOf 7 → (r : Booked) → r ≡ sameBooked slot a → Subscribes slot wanted part r
-    subscribe-mode m a e r k =
+  module _ (t : b ≡ false) (v : Bool) (ev : v ≡ isAddBad part) where
+    pub subscribe-bad : v ≡ true → (a : Answer) → a ≡ failedOf 7 → (r : Booked) → r ≡ sameBooked slot a → Subscribes slot wanted part r
+    subscribe-bad m a e r k =
         record {
-          books = λ entries n l w s. record { whole = λ d. same-whole entries wanted slot a r k s d ∙ add-mode (withSubscriptions d entries) n part f b q t m a e };
+          books = λ entries n l w s. record { whole = λ d. same-whole entries wanted slot a r k s d ∙ add-bad (withSubscriptions d entries) n part f b q t v ev m a e };
         }
 
-    module _ (m : getD part 20 0 ≡ 1) where
+    module _ (m : v ≡ false) where
       pub subscribe-twin : slot .entry .used ≡ true → (a : Answer) → a ≡ failedOf 9 → (r : Booked) → r ≡ sameBooked slot a → Subscribes slot wanted part r
       subscribe-twin u a e r k =
           record {
             books = λ entries n l w s.
                 let twin = slot-used entries l wanted slot s u in
-                record { whole = λ d. same-whole entries wanted slot a r k s d ∙ add-twin (withSubscriptions d entries) n part f b q t m (be32At part 16) wanted (w ∙ full n part) (twinAt wanted entries) refl l (twin .low) a e };
+                record { whole = λ d. same-whole entries wanted slot a r k s d ∙ add-twin (withSubscriptions d entries) n part f b q t v ev m 0 (zeros greatestContext) wanted w (twinAt wanted entries) refl l (twin .low) a e };
           }
 
       module _ (u : slot .entry .used ≡ false) where
@@ -210,15 +216,15 @@ module _ (slot : Slot) (wanted : Subscription) (part : List ℕ) (f : isMalforme
             record {
               books = λ entries n l w s.
                   let room = slot-unused entries l wanted slot s u in
-                  record { whole = λ d. same-whole entries wanted slot a r k s d ∙ add-full (withSubscriptions d entries) n part f b q t m (be32At part 16) wanted (w ∙ full n part) (twinAt wanted entries) refl l (room .none) (slot .place) (room .here) h a e };
+                  record { whole = λ d. same-whole entries wanted slot a r k s d ∙ add-full (withSubscriptions d entries) n part f b q t v ev m 0 (zeros greatestContext) wanted w (twinAt wanted entries) refl l (room .none) (slot .place) (room .here) h a e };
             }
 
-        pub subscribe-done : slot .place < 32 → (a : Answer) → a ≡ answerWith [] → (r : Booked) → r ≡ sameBooked (record { place = slot .place; entry = wanted }) a → Subscribes slot wanted part r
-        subscribe-done h a e r k =
+        pub subscribe-done : slot .place < 32 → (next : Subscription) → next ≡ withContext wanted (contextGiven part) (contextHeld part) → (a : Answer) → a ≡ answerWith [] → (r : Booked) → r ≡ sameBooked (record { place = slot .place; entry = next }) a → Subscribes slot wanted part r
+        subscribe-done h next en a e r k =
             record {
               books = λ entries n l w s.
                   let room = slot-unused entries l wanted slot s u in
-                  record { whole = λ d. ap (bookedIn d entries) k ∙ rw (lt-ltb (slot .place) 32 h) (add-done (withSubscriptions d entries) n part f b q t m (be32At part 16) wanted (w ∙ full n part) (twinAt wanted entries) refl l (room .none) (slot .place) (room .here) h refl a e) };
+                  record { whole = λ d. ap (bookedIn d entries) k ∙ rw (lt-ltb (slot .place) 32 h) (add-done (withSubscriptions d entries) n part f b q t v ev m 0 (zeros greatestContext) wanted w (twinAt wanted entries) refl l (room .none) (slot .place) (room .here) h next en a e) };
             }
 
 -- ---- a remove
@@ -235,7 +241,7 @@ module _ (slot : Slot) (part : List ℕ) (f : isMalformed removeMethod 2 part �
         record {
           books = λ entries n l s.
               let room = slot-unused entries l (subscriptionFrom n part) slot s (not-true (slot .entry .used) u) in
-              record { whole = λ d. same-whole entries (subscriptionFrom n part) slot a r k s d ∙ remove-none (withSubscriptions d entries) n part f b q t (be32At part 16) (subscriptionFrom n part) (full n part) (twinAt (subscriptionFrom n part) entries) refl l (room .none) a e };
+              record { whole = λ d. same-whole entries (subscriptionFrom n part) slot a r k s d ∙ remove-none (withSubscriptions d entries) n part f b q t (contextGiven part) (contextHeld part) (subscriptionFrom n part) (full n part) (twinAt (subscriptionFrom n part) entries) refl l (room .none) a e };
         }
 
     pub unsubscribe-done : not (slot .entry .used) ≡ false → (a : Answer) → a ≡ answerWith [] → (r : Booked) → r ≡ sameBooked (record { place = slot .place; entry = free }) a → Unsubscribes slot part r
@@ -244,7 +250,7 @@ module _ (slot : Slot) (part : List ℕ) (f : isMalformed removeMethod 2 part �
           books = λ entries n l s.
               let twin = slot-used entries l (subscriptionFrom n part) slot s (not-false (slot .entry .used) u) in
               let h : slot .place < 32 = rw (twin .here) (twin .low) in
-              record { whole = λ d. ap (bookedIn d entries) k ∙ rw (lt-ltb (slot .place) 32 h) (remove-done (withSubscriptions d entries) n part f b q t (be32At part 16) (subscriptionFrom n part) (full n part) (slot .place) (twin .here) l h a e) };
+              record { whole = λ d. ap (bookedIn d entries) k ∙ rw (lt-ltb (slot .place) 32 h) (remove-done (withSubscriptions d entries) n part f b q t (contextGiven part) (contextHeld part) (subscriptionFrom n part) (full n part) (slot .place) (twin .here) l h a e) };
         }
 
 -- ---- either of them
@@ -258,14 +264,13 @@ module _ (entries : List Subscription) (n t m count : ℕ) (part : List ℕ) (s 
       record { whole = λ d. ap (bookedIn d entries) k ∙ run-stopped (withSubscriptions d entries) n t m count part m refl s es z a e }
 
   module _ (z : s ≡ 0) (l : length entries ≡ 32) (slot : Slot) (r : Booked) where
-    pub book-add : (wanted : Subscription) → Subscribes slot wanted part r → slot ≡ slotFor entries wanted → (x : ℕ) → wanted ≡ withContext (subscriptionFrom n part) x → x ≡ be32At part 16 → m ≡ addMethod → Books entries n t m count part r
-    book-add wanted b q x w ex e =
-        let own : wanted ≡ subscriptionFrom n part = w ∙ ap (withContext (subscriptionFrom n part)) ex ∙ sym (full n part) in
-        record { whole = λ d. run-add (withSubscriptions d entries) n t m count part m refl s es z e (bookedIn d entries r) (b .books entries n l own q .whole d) }
+    pub book-add : (wanted : Subscription) → Subscribes slot wanted part r → slot ≡ slotFor entries wanted → wanted ≡ withoutContext (subscriptionFrom n part) → m ≡ addMethod → Books entries n t m count part r
+    book-add wanted b q w e =
+        record { whole = λ d. run-add (withSubscriptions d entries) n t m count part m refl s es z e (bookedIn d entries r) (b .books entries n l w q .whole d) }
 
-    pub book-remove : isSubscribing m ≡ true → (m ≡ addMethod → ⊥) → (x : ℕ) (wanted : Subscription) → wanted ≡ withContext (subscriptionFrom n part) x → slot ≡ slotFor entries wanted → Unsubscribes slot part r → Books entries n t m count part r
-    book-remove h g x wanted w q b =
-        let found : slot ≡ slotFor entries (subscriptionFrom n part) = q ∙ ap (slotFor entries) w ∙ slot-alike entries (subscriptionFrom n part) x in
+    pub book-remove : isSubscribing m ≡ true → (m ≡ addMethod → ⊥) → (wanted : Subscription) → wanted ≡ withoutContext (subscriptionFrom n part) → slot ≡ slotFor entries wanted → Unsubscribes slot part r → Books entries n t m count part r
+    book-remove h g wanted w q b =
+        let found : slot ≡ slotFor entries (subscriptionFrom n part) = q ∙ ap (slotFor entries) w ∙ slot-alike entries (subscriptionFrom n part) in
         record { whole = λ d. run-remove (withSubscriptions d entries) n t m count part m refl s es z (remove-else m h g) (bookedIn d entries r) (b .books entries n l found .whole d) }
 
   module _ (z : s ≡ 0) where
@@ -273,18 +278,24 @@ module _ (entries : List Subscription) (n t m count : ℕ) (part : List ℕ) (s 
       pub added-formed : isMalformed addMethod 5 part ≡ false
       added-formed = add-formed t m count part s es z e
 
-      pub added-context : 20 ≤ length part
-      added-context = omega (arith, add-size part added-formed)
-
-      pub added-long : 16 ≤ length part
+      added-long : 16 ≤ length part
       added-long = omega (arith, add-size part added-formed)
 
-    module _ (h : isSubscribing m ≡ true) (g : m ≡ addMethod → ⊥) where
-      pub removed-formed : isMalformed removeMethod 2 part ≡ false
-      removed-formed = remove-formed t m count part s es z (remove-else m h g)
+    module _ (h : isSubscribing m ≡ true) where
+      module _ (g : m ≡ addMethod → ⊥) where
+        pub removed-formed : isMalformed removeMethod 2 part ≡ false
+        removed-formed = remove-formed t m count part s es z (remove-else m h g)
 
-      pub removed-long : 16 ≤ length part
-      removed-long = omega (arith, remove-size part removed-formed)
+        removed-long : 16 ≤ length part
+        removed-long = omega (arith, remove-size part removed-formed)
+
+      -- the arguments of both reach to the subscriber's end
+      pub booked-long : 16 ≤ length part
+      booked-long = go (eqb m addMethod) refl
+        where
+          go : (a : Bool) → eqb m addMethod ≡ a → 16 ≤ length part
+          go true e = added-long (eqb-true m addMethod e)
+          go false e = removed-long (eqb-false m addMethod e)
 
 -- ---- 3.14
 module _ (mechanism : Mechanism) (t count : ℕ) (part : List ℕ) (s : ℕ) (es : s ≡ firstStatus t resetKeyMethod count part) where

@@ -6,6 +6,7 @@ use mathlib.Core.List.{List}
 use lib.Dec.{ltb}
 use lib.ListN.{length, getD, set}
 use Rattle.mechanism.specs.declared.Mechanism.{Mechanism}
+use Rattle.subscription.specs.Setters.{withoutContext}
 use Rattle.subscription.specs.State.{entryCount, free, twinAt, lowestUnused}
 use Rattle.subscription.specs.Arguments.{subscriptionFrom}
 use Rattle.subscription.specs.declared.Subscription.{Subscription}
@@ -46,7 +47,7 @@ pub record Books (entries : List Subscription) (n target m count : ℕ) (part : 
 
 -- Whichever entries it is the slot of, r is the outcome of an add.
 pub record Subscribes (slot : Slot) (wanted : Subscription) (part : List ℕ) (r : Booked) : Type 0 where
-  pub books : (entries : List Subscription) (n : ℕ) → length entries ≡ entryCount → wanted ≡ subscriptionFrom n part
+  pub books : (entries : List Subscription) (n : ℕ) → length entries ≡ entryCount → wanted ≡ withoutContext (subscriptionFrom n part)
       → slot ≡ slotFor entries wanted → Books entries n subscriptionManager addMethod 5 part r
 
 -- Whichever entries it is the slot of, r is the outcome of a remove.

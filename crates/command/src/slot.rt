@@ -65,7 +65,7 @@ impl Slot {
         if subscription::is_strange(part) {
             return self.same(Answer::failed(numbers::STRANGE_EMITTER));
         }
-        if part[20] != 1 {
+        if objects::is_add_bad(part) {
             return self.same(Answer::failed(numbers::BAD_VALUE));
         }
         let entry = self.entry;
@@ -75,7 +75,8 @@ impl Slot {
         if self.place >= subscription::ENTRIES {
             return self.same(Answer::failed(numbers::NO_FREE_ENTRY));
         }
-        self.entry = wanted;
+        let next = wanted.with_context(part);
+        self.entry = next;
         self.same(Answer::done())
     }
 
@@ -116,12 +117,10 @@ pub fn book(
         };
         return slot.same(Answer::failed(status));
     }
+    let wanted = subscription::entry(n, part);
+    let slot = slot_for(entries, wanted);
     if m == objects::ADD {
-        let wanted = subscription::entry(n, part, octets::be32(part, 16));
-        let slot = slot_for(entries, wanted);
         return slot.subscribe(wanted, part);
     }
-    let wanted = subscription::entry(n, part, 0);
-    let slot = slot_for(entries, wanted);
     slot.unsubscribe(part)
 }

@@ -1,26 +1,29 @@
--- What the reader tells of an entry's parameters by its count and by its part. Assumes nothing.
-use Prim.Native.Nat.{ℕ, _<_}
+-- What the reader tells of an entry's parameters by its count and by its part, and of its context. Assumes nothing.
+use Prim.Native.Nat.{ℕ, _<_, _≤_}
 use mathlib.Core.Path.{_≡_, refl, sym, ap, _∙_}
 use mathlib.Core.Bool.{Bool, true, false, cond, not, false≢true, _||_}
 use mathlib.Core.List.{List, [], _∷_}
 use native.Mathlib.Omega.{arith}
 use lib.Dec.{ltb, eqb}
-use lib.ListN.{length, getD, take}
+use lib.ListN.{length, getD, take, drop, length-drop}
+use lib.Seq.{length-take-le}
 use borrow.Author.Tests.{eq-eqb, ne-eqb, ltb-true, eqb-true, eqb-false}
 use Rattle.laws.proofs.Conds.{cond-right}
 use Rattle.laws.proofs.Parts.{nil-of}
+use Rattle.octets.specs.Numbers.{be16At}
 use Rattle.numbers.specs.Refusal.{noEntry, notRefused}
-use Rattle.frame.specs.Limits.{notification, response, keepAlive}
+use Rattle.frame.specs.Limits.{notification, response, keepAlive, greatestContext}
 use Rattle.frame.specs.Header.{pduType, messageCount}
-use Rattle.frame.specs.Entry.{countPlace, leastCount, entrySize, wellFormed}
+use Rattle.frame.specs.Entry.{contextCount, countPlace, leastCount, entrySize, wellFormed}
 use Rattle.frame.specs.Counts.{countGiven, NoneIsBare}
 use Rattle.frame.specs.Decide.{decide}
 use Rattle.frame.specs.declared.Decision.{Decision}
 use Rattle.frame.specs.declared.Decision.the-variants.{Undecided, Faulty, Sound}
 use Rattle.frame.proofs.Counts.{count-tells}
-use Rattle.frame.proofs.Entries.{well-make}
+use Rattle.frame.proofs.Contexts.{context-tells}
+use Rattle.frame.proofs.Entries.{offset-notification, well-make}
 use Rattle.frame.proofs.Sounds.{sound-at}
-use Rattle.fields.specs.Place.{entriesFrom, entryBytes, parametersOf}
+use Rattle.fields.specs.Place.{entriesFrom, entryBytes, parametersOf, contextOf}
 use Rattle.fields.specs.Fields.{commandOf, notificationOf, responseOf}
 use Rattle.fields.specs.declared.CommandFields.{CommandFields}
 use Rattle.fields.specs.declared.NotificationFields.{NotificationFields}
@@ -29,12 +32,13 @@ use Rattle.fields.proofs.Places.{entries-get}
 use Rattle.reader.specs.Numbers.{commandNumbers, notificationNumbers, responseNumbers, entryNumbers}
 use Rattle.reader.specs.Read.{dataOf}
 use Rattle.reader.specs.Entry.{hasEntry, fieldsOf, entryAt, entryIn, entryBy, entryOf, partIn, partBy, partOf, ReadsEntry}
+use Rattle.reader.specs.Context.{contextIn, contextBy, entryContext}
 use Rattle.reader.specs.declared.Entry.the-variants.{Command, Notification, Response}
 use Rattle.reader.proofs.Sounds.{kind-low, entries-data}
 use Rattle.writer.proofs.Walks.{one-alone}
 use Rattle.objects.specs.Methods.{setMethod, addMethod, removeMethod, resetKeyMethod}
 use Rattle.objects.specs.Tests.{countOf, lengthOf, isLengthBad, isPairBad, isMalformed}
-use Rattle.counts.specs.Told.{NoneTold}
+use Rattle.counts.specs.Told.{NoneTold, ContextTold}
 
 -- an entry that was answered by its fields: a well formed entry of the message's type, and the part is its own
 record Found (s : List ℕ) (i : ℕ) (answer : List ℕ) : Type 0 where
@@ -43,6 +47,7 @@ record Found (s : List ℕ) (i : ℕ) (answer : List ℕ) : Type 0 where
   pub well : wellFormed kind bytes ≡ true
   pub fields : fieldsOf kind bytes ≡ answer
   pub part : partOf s i ≡ parametersOf kind bytes
+  pub context : entryContext s i ≡ contextOf kind bytes
 
 module _ (s : List ℕ) (i n : ℕ) (e : decide s ≡ Sound n) where
   well-at : hasEntry (pduType s) (messageCount s) i ≡ true → wellFormed (pduType s) (entryAt s n i) ≡ true
@@ -56,14 +61,17 @@ module _ (s : List ℕ) (i n : ℕ) (e : decide s ≡ Sound n) where
       well-make (pduType s) (take (entrySize (pduType s) u) u) (kind-low s n w k) (one-alone (pduType s) u nz)
 
   found-in : (answer : List ℕ) → 2 < length answer → entryIn s n i ≡ answer → Found s i answer
-  unfolding entryIn partOf partBy partIn
+  unfolding entryIn partOf partBy partIn entryContext contextBy contextIn
   found-in answer l q = go (hasEntry (pduType s) (messageCount s) i) refl q
     where
       part-is : hasEntry (pduType s) (messageCount s) i ≡ true → partOf s i ≡ parametersOf (pduType s) (entryAt s n i)
       part-is h = ap (λ (d : Decision). partBy d s i) e ∙ rw h
 
+      context-is : hasEntry (pduType s) (messageCount s) i ≡ true → entryContext s i ≡ contextOf (pduType s) (entryAt s n i)
+      context-is h = ap (λ (d : Decision). contextBy d s i) e ∙ rw h
+
       go : (b : Bool) → hasEntry (pduType s) (messageCount s) i ≡ b → cond b (fieldsOf (pduType s) (entryAt s n i)) (noEntry ∷ []) ≡ answer → Found s i answer
-      go true h f = record { kind = pduType s; bytes = entryAt s n i; well = well-at h; fields = f; part = part-is h }
+      go true h f = record { kind = pduType s; bytes = entryAt s n i; well = well-at h; fields = f; part = part-is h; context = context-is h }
       go false h f = absurd (omega (arith, l, ap length f))
 
 found : (s : List ℕ) (i : ℕ) (answer : List ℕ) → 2 < length answer → entryOf s i ≡ answer → Found s i answer
@@ -171,3 +179,42 @@ none-told =
       response = responded;
       takesNone = λ s i c h m z. both-tell m (c .count) (partOf s i) z (command s i c h);
     }
+
+-- ---- the context
+-- a notification's answer has the type 2 behind the refusal's number, and the context's count behind the parameters'
+context-counted : (kind : ℕ) (e answer : List ℕ) → fieldsOf kind e ≡ answer → getD answer 1 0 ≡ notification
+    → (kind ≡ notification) × (be16At e 13 ≡ getD answer 6 0)
+unfolding fieldsOf commandNumbers notificationNumbers responseNumbers commandOf notificationOf responseOf
+context-counted kind e answer f z = go (ltb kind notification) refl (eqb kind notification) refl f
+  where
+    go : (x : Bool) → ltb kind notification ≡ x → (y : Bool) → eqb kind notification ≡ y
+        → cond x (notRefused ∷ commandNumbers (commandOf e)) (cond y (notRefused ∷ notificationNumbers (notificationOf e)) (notRefused ∷ responseNumbers (responseOf e))) ≡ answer
+        → (kind ≡ notification) × (be16At e 13 ≡ getD answer 6 0)
+    go true p y q f = absurd (omega (arith, z, ap (λ (l : List ℕ). getD l 1 0) f))
+    go false p true q f = (eqb-true kind notification q, ap (λ (l : List ℕ). getD l 6 0) f)
+    go false p false q f = absurd (omega (arith, z, ap (λ (l : List ℕ). getD l 1 0) f))
+
+context-long : (e : List ℕ) → wellFormed notification e ≡ true → length (contextOf notification e) ≡ be16At e 13
+unfolding contextOf contextCount
+context-long e w =
+    let o = context-tells .within notification e w in
+    length-take-le (be16At e 13) (drop 15 e) (omega (arith, o, offset-notification e, length-drop 15 e))
+
+context-bound : (e : List ℕ) → wellFormed notification e ≡ true → be16At e 13 ≤ greatestContext
+unfolding contextCount
+context-bound e w = context-tells .bounded notification e w
+
+context-told-at : (s : List ℕ) (i : ℕ) (n : NotificationFields) → ReadsEntry s i (Notification n)
+    → (n .«context_count» ≡ length (entryContext s i)) × (n .«context_count» ≤ greatestContext)
+unfolding entryNumbers notificationNumbers
+context-told-at s i n h =
+    let answer = entryNumbers (Notification n) in
+    let f = found s i answer (omega arith) (sym h) in
+    let c = context-counted (f .kind) (f .bytes) answer (f .fields) refl in
+    let w : wellFormed notification (f .bytes) ≡ true = rw (c .0) at (f .well) in
+    let k : entryContext s i ≡ contextOf notification (f .bytes) = rw (c .0) at (f .context) in
+    let l = context-long (f .bytes) w in
+    (sym (ap length k ∙ l ∙ c .1), omega (arith, context-bound (f .bytes) w, c .1))
+
+pub context-told : ContextTold
+context-told = record { counted = context-told-at }

@@ -9,15 +9,14 @@ use lib.Dec.{eqb, ltb}
 use lib.ListN.{length, getD, set}
 use Rattle.laws.specs.Lists.{any}
 use Rattle.laws.proofs.Tables.{any-index, clash}
-use Rattle.octets.specs.Numbers.{be32At}
 use Rattle.mechanism.specs.Arguments.{isUntaken, armedBy, armingOf}
 use Rattle.mechanism.specs.declared.Arming.{Arming}
 use Rattle.subscription.specs.Setters.{withContext}
 use Rattle.subscription.specs.State.{isTwin, isUnused, twinAt, lowestUnused, free, markedOf}
-use Rattle.subscription.specs.Arguments.{subscriptionFrom, isStrange, isEmitterBad}
+use Rattle.subscription.specs.Arguments.{contextHeld, subscriptionFrom, isStrange, isEmitterBad}
 use Rattle.subscription.specs.declared.Subscription.{Subscription}
 use Rattle.objects.specs.Methods.{isMute, classMethod, lockableMethod, lockMethod, unlockMethod, getMethod, setMethod, addMethod, removeMethod, resetKeyMethod, placeOf, isManager, isObject, isTelling, isLocking, isMuting, isSubscribing, hasMethod}
-use Rattle.objects.specs.Tests.{isForbidden, countOf, lengthOf, isLengthBad, isPairBad, isMalformed, isMuteValue, isValueBad, firstStatus}
+use Rattle.objects.specs.Tests.{isForbidden, countOf, lengthOf, isLengthBad, isPairBad, isMalformed, isMuteValue, contextGiven, isAddBad, isValueBad, firstStatus}
 use Rattle.objects.specs.Answers.{classOf, identificationOf, replyOf, failedOf, answerWith}
 use Rattle.objects.specs.declared.Answer.{Answer}
 use Rattle.holders.specs.Holders.{ownerOf, isOther}
@@ -154,12 +153,17 @@ told-value d at a e = rw (e, place-of at)
 
 -- ---- subscriptions
 -- the context makes no difference to a twin
-twin-same : (n : ℕ) (part : List ℕ) (x : ℕ) (ss : List Subscription) → twinAt (withContext (subscriptionFrom n part) x) ss ≡ twinAt (subscriptionFrom n part) ss
+twin-same : (n : ℕ) (part : List ℕ) (x : ℕ) (y : List ℕ) (ss : List Subscription) → twinAt (withContext (subscriptionFrom n part) x y) ss ≡ twinAt (subscriptionFrom n part) ss
 unfolding isTwin
-twin-same n part x ss = refl
+twin-same n part x y ss = refl
+
+-- with the context of its arguments, whatever it had, it is their subscription
+own-context : (n : ℕ) (part : List ℕ) (x : ℕ) (y : List ℕ) → withContext (withContext (subscriptionFrom n part) x y) (contextGiven part) (contextHeld part) ≡ subscriptionFrom n part
+unfolding subscriptionFrom
+own-context n part x y = refl
 
 module _ (d : Device) (n : ℕ) (part : List ℕ) where
-  add-status : isMalformed addMethod 5 part ≡ false → statusOf d n 4 addMethod 5 part ≡ cond (isStrange part) 6 (cond (not (eqb (getD part 20 0) 1)) 7 (cond (isSubscribed d n part) 9 (cond (not (any isUnused (d .subscriptions))) 10 0)))
+  add-status : isMalformed addMethod 5 part ≡ false → statusOf d n 4 addMethod 5 part ≡ cond (isStrange part) 6 (cond (isAddBad part) 7 (cond (isSubscribed d n part) 9 (cond (not (any isUnused (d .subscriptions))) 10 0)))
   unfolding statusOf firstStatus laterStatus isObject isManager hasMethod isTelling isLocking isMuting isForbidden isHeldByOther isEmitterBad isSubscribing isValueBad isOutOfTurn isFull
   add-status f = simp (f, or-false)
 
@@ -168,9 +172,9 @@ module _ (d : Device) (n : ℕ) (part : List ℕ) where
   remove-status f = simp (f, or-false)
 
   -- a search's answer is whether the subscription is held
-  module _ (x : ℕ) (s : Subscription) (es : s ≡ withContext (subscriptionFrom n part) x) (i : ℕ) (ei : i ≡ twinAt s (d .subscriptions)) (l : length (d .subscriptions) ≡ 32) where
+  module _ (x : ℕ) (y : List ℕ) (s : Subscription) (es : s ≡ withContext (subscriptionFrom n part) x y) (i : ℕ) (ei : i ≡ twinAt s (d .subscriptions)) (l : length (d .subscriptions) ≡ 32) where
     place-is : i ≡ twinAt (subscriptionFrom n part) (d .subscriptions)
-    place-is = ei ∙ ap (λ (y : Subscription). twinAt y (d .subscriptions)) es ∙ twin-same n part x (d .subscriptions)
+    place-is = ei ∙ ap (λ (z : Subscription). twinAt z (d .subscriptions)) es ∙ twin-same n part x y (d .subscriptions)
 
     pub held-is : i < 32 → isSubscribed d n part ≡ true
     unfolding isSubscribed
@@ -184,43 +188,45 @@ module _ (d : Device) (n : ℕ) (part : List ℕ) where
     pub add-strange : b ≡ true → (a : Answer) → a ≡ failedOf 6 → unchanged d a ≡ runOf d n 4 addMethod 5 part
     add-strange t a e = ran-failed d n 4 addMethod 5 part 6 (add-status f ∙ rw (← q, t)) refl a e
 
-    module _ (t : b ≡ false) where
-      pub add-mode : (getD part 20 0 ≡ 1 → ⊥) → (a : Answer) → a ≡ failedOf 7 → unchanged d a ≡ runOf d n 4 addMethod 5 part
-      add-mode m a e = ran-failed d n 4 addMethod 5 part 7 (add-status f ∙ rw (← q, t, ne-eqb (getD part 20 0) 1 m)) refl a e
+    module _ (t : b ≡ false) (v : Bool) (ev : v ≡ isAddBad part) where
+      pub add-bad : v ≡ true → (a : Answer) → a ≡ failedOf 7 → unchanged d a ≡ runOf d n 4 addMethod 5 part
+      add-bad m a e = ran-failed d n 4 addMethod 5 part 7 (add-status f ∙ rw (← q, t, ← ev, m)) refl a e
 
-      module _ (m : getD part 20 0 ≡ 1) where
+      module _ (m : v ≡ false) where
         add-late : (g : Bool) → isSubscribed d n part ≡ g → statusOf d n 4 addMethod 5 part ≡ cond g 9 (cond (not (any isUnused (d .subscriptions))) 10 0)
-        add-late g e = add-status f ∙ rw (← q, t, eq-eqb (getD part 20 0) 1 m, e)
+        add-late g e = add-status f ∙ rw (← q, t, ← ev, m, e)
 
-        module _ (x : ℕ) (s : Subscription) (es : s ≡ withContext (subscriptionFrom n part) x) (i : ℕ) (ei : i ≡ twinAt s (d .subscriptions)) (l : length (d .subscriptions) ≡ 32) where
+        module _ (x : ℕ) (y : List ℕ) (s : Subscription) (es : s ≡ withContext (subscriptionFrom n part) x y) (i : ℕ) (ei : i ≡ twinAt s (d .subscriptions)) (l : length (d .subscriptions) ≡ 32) where
           pub add-twin : i < 32 → (a : Answer) → a ≡ failedOf 9 → unchanged d a ≡ runOf d n 4 addMethod 5 part
-          add-twin h a e = ran-failed d n 4 addMethod 5 part 9 (add-late true (held-is x s es i ei l h)) refl a e
+          add-twin h a e = ran-failed d n 4 addMethod 5 part 9 (add-late true (held-is x y s es i ei l h)) refl a e
 
           module _ (h : 32 ≤ i) (r : ℕ) (er : r ≡ lowestUnused (d .subscriptions)) where
             room-is : (g : Bool) → ltb r 32 ≡ g → statusOf d n 4 addMethod 5 part ≡ cond (not g) 10 0
             room-is g k =
-                add-late false (held-not x s es i ei l h)
+                add-late false (held-not x y s es i ei l h)
                 ∙ rw (any-index isUnused (d .subscriptions), ← er, l, k)
 
             pub add-full : 32 ≤ r → (a : Answer) → a ≡ failedOf 10 → unchanged d a ≡ runOf d n 4 addMethod 5 part
             add-full k a e = ran-failed d n 4 addMethod 5 part 10 (room-is false (le-ltb r 32 k)) refl a e
 
-            pub add-done : r < 32 → x ≡ be32At part 16 → (a : Answer) → a ≡ answerWith [] → _≡_ {A = Ran} (record { device = withSubscriptions d (set (d .subscriptions) r s); answer = a }) (runOf d n 4 addMethod 5 part)
-            unfolding doneOf answerOf replyOf subscriptionFrom
-            add-done k ex a e = rw (e, es, ex, er) (ran-done d n 4 addMethod 5 part (room-is true (lt-ltb r 32 k)))
+            pub add-done : r < 32 → (w : Subscription) → w ≡ withContext s (contextGiven part) (contextHeld part) → (a : Answer) → a ≡ answerWith [] → _≡_ {A = Ran} (record { device = withSubscriptions d (set (d .subscriptions) r w); answer = a }) (runOf d n 4 addMethod 5 part)
+            unfolding doneOf answerOf replyOf
+            add-done k w ew a e =
+                let own : w ≡ subscriptionFrom n part = ew ∙ ap (λ (z : Subscription). withContext z (contextGiven part) (contextHeld part)) es ∙ own-context n part x y in
+                rw (e, own, er) (ran-done d n 4 addMethod 5 part (room-is true (lt-ltb r 32 k)))
 
   module _ (f : isMalformed removeMethod 2 part ≡ false) (b : Bool) (q : b ≡ isStrange part) where
     pub remove-strange : b ≡ true → (a : Answer) → a ≡ failedOf 6 → unchanged d a ≡ runOf d n 4 removeMethod 2 part
     remove-strange t a e = ran-failed d n 4 removeMethod 2 part 6 (remove-status f ∙ rw (← q, t)) refl a e
 
-    module _ (t : b ≡ false) (x : ℕ) (s : Subscription) (es : s ≡ withContext (subscriptionFrom n part) x) (i : ℕ) (ei : i ≡ twinAt s (d .subscriptions)) (l : length (d .subscriptions) ≡ 32) where
+    module _ (t : b ≡ false) (x : ℕ) (y : List ℕ) (s : Subscription) (es : s ≡ withContext (subscriptionFrom n part) x y) (i : ℕ) (ei : i ≡ twinAt s (d .subscriptions)) (l : length (d .subscriptions) ≡ 32) where
       pub remove-none : 32 ≤ i → (a : Answer) → a ≡ failedOf 9 → unchanged d a ≡ runOf d n 4 removeMethod 2 part
-      remove-none h a e = ran-failed d n 4 removeMethod 2 part 9 (remove-status f ∙ rw (← q, t, held-not x s es i ei l h)) refl a e
+      remove-none h a e = ran-failed d n 4 removeMethod 2 part 9 (remove-status f ∙ rw (← q, t, held-not x y s es i ei l h)) refl a e
 
       pub remove-done : i < 32 → (a : Answer) → a ≡ answerWith [] → _≡_ {A = Ran} (record { device = withSubscriptions d (set (d .subscriptions) i free); answer = a }) (runOf d n 4 removeMethod 2 part)
       unfolding doneOf answerOf replyOf
       remove-done h a e =
-          rw (e, place-is x s es i ei l) (ran-done d n 4 removeMethod 2 part (remove-status f ∙ rw (← q, t, held-is x s es i ei l h)))
+          rw (e, place-is x y s es i ei l) (ran-done d n 4 removeMethod 2 part (remove-status f ∙ rw (← q, t, held-is x y s es i ei l h)))
 
 -- ---- the mechanism
 -- R71, R73. The status of 3.14 hangs on no device

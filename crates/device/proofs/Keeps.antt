@@ -30,9 +30,11 @@ use Rattle.subscription.specs.Arguments.{subscriptionFrom, isStrange, isEmitter
 use Rattle.subscription.specs.State.{free, isTwin, twinAt, lowestUnused, markedOf, toldOf, sweptOf}
 use Rattle.subscription.specs.Obeys.{entryObeys, apart}
 use Rattle.subscription.specs.declared.Subscription.{Subscription}
+use Rattle.subscription.proofs.Entries.{held-kept}
 use Rattle.subscription.proofs.Keeps.{entries-kept, obeys-sound}
+use Rattle.objects.proofs.Shapes.{add-held}
 use Rattle.objects.specs.Methods.{isMute, changeEvent, lockMethod, unlockMethod, setMethod, addMethod, removeMethod, resetKeyMethod, placeOf, isSubscribing}
-use Rattle.objects.specs.Tests.{isMuteValue, isValueBad, firstStatus}
+use Rattle.objects.specs.Tests.{isMuteValue, isAddBad, isValueBad, firstStatus}
 use Rattle.objects.specs.Answers.{failedOf}
 use Rattle.holders.specs.Holders.{ownerOf, holderObeys, sweptHolder}
 use Rattle.holders.proofs.Keeps.{holders-kept}
@@ -318,15 +320,23 @@ set-keeps d target v r h = go (eqb (muteAt d target) v)
 value-right : (m : ℕ) (part : List ℕ) → isValueBad m part ≡ false → eqb m setMethod ≡ true → isMuteValue (getD part 0 0) ≡ true
 unfolding isValueBad
 value-right m part v e =
-    let j = or-neither ((eqb m addMethod && not (eqb (getD part 20 0) 1)) || (eqb m setMethod && not (isMuteValue (getD part 0 0)))) _ v .0 in
-    let k = or-neither (eqb m addMethod && not (eqb (getD part 20 0) 1)) _ j .1 in
+    let j = or-neither ((eqb m addMethod && isAddBad part) || (eqb m setMethod && not (isMuteValue (getD part 0 0)))) _ v .0 in
+    let k = or-neither (eqb m addMethod && isAddBad part) _ j .1 in
     not-false _ (rw e at k)
 
 -- the text and the port of an arming that passed
 arming-right : (m : ℕ) (part : List ℕ) → isValueBad m part ≡ false → eqb m resetKeyMethod ≡ true → isUntaken part ≡ false
 unfolding isValueBad
 arming-right m part v e =
-    let k = or-neither ((eqb m addMethod && not (eqb (getD part 20 0) 1)) || (eqb m setMethod && not (isMuteValue (getD part 0 0)))) _ v .1 in
+    let k = or-neither ((eqb m addMethod && isAddBad part) || (eqb m setMethod && not (isMuteValue (getD part 0 0)))) _ v .1 in
+    rw e at k
+
+-- the mode and the context of an add that passed
+adding-right : (m : ℕ) (part : List ℕ) → isValueBad m part ≡ false → eqb m addMethod ≡ true → isAddBad part ≡ false
+unfolding isValueBad
+adding-right m part v e =
+    let j = or-neither ((eqb m addMethod && isAddBad part) || (eqb m setMethod && not (isMuteValue (getD part 0 0)))) _ v .0 in
+    let k = or-neither (eqb m addMethod && isAddBad part) _ j .0 in
     rw e at k
 
 -- the entry of an add that passed
@@ -335,7 +345,13 @@ unfolding isEmitterBad isSubscribing isStrange subscriptionFrom
 entry-right d n target m part l p e =
     let k : isMute (be32At part 0) && eqb (be32At part 4) changeEvent ≡ true = not-false _ (rw e at (p .emitter)) in
     obeys-sound (d .connections) (subscriptionFrom n part)
-    (record { used = refl; live = l; mute = and-left _ _ k; event = and-right (isMute (be32At part 0)) _ k })
+    (record {
+      used = refl;
+      live = l;
+      mute = and-left _ _ k;
+      event = and-right (isMute (be32At part 0)) _ k;
+      context = held-kept part (add-held part (adding-right m part (p .value) e));
+    })
 
 entry-apart : (d : Device) (n target m : ℕ) (part : List ℕ) → Passed d n target m part → eqb m addMethod ≡ true → all (apart (subscriptionFrom n part)) (d .subscriptions) ≡ true
 unfolding isOutOfTurn isSubscribed apart

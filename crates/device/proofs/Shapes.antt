@@ -13,7 +13,7 @@ use Rattle.laws.proofs.Tables.{or-cases}
 use Rattle.mechanism.specs.Arguments.{isMisfit}
 use Rattle.subscription.specs.Arguments.{isEmitterBad}
 use Rattle.objects.specs.Methods.{isMute, classMethod, lockableMethod, lockMethod, unlockMethod, getMethod, setMethod, addMethod, removeMethod, resetKeyMethod, placeOf, isManager, isObject, isTelling, isLocking, isMuting, isSubscribing, hasMethod}
-use Rattle.objects.specs.Tests.{isForbidden, countOf, lengthOf, isLengthBad, isPairBad, isMalformed, isValueBad, firstStatus}
+use Rattle.objects.specs.Tests.{isForbidden, countOf, contextGiven, lengthOf, isLengthBad, isPairBad, isMalformed, isValueBad, firstStatus}
 use Rattle.objects.specs.Scaffold.{Allowed}
 use Rattle.objects.specs.Answers.{failedOf}
 use Rattle.objects.specs.declared.Answer.{Answer}
@@ -24,7 +24,7 @@ use Rattle.device.specs.Run.{Ran}
 use Rattle.device.proofs.Commands.{neither-fails, ran-failed, ran-done, get-status}
 
 -- ---- lengths
-pub add-size : (part : List ℕ) → isMalformed addMethod 5 part ≡ false → length part ≡ 23
+pub add-size : (part : List ℕ) → isMalformed addMethod 5 part ≡ false → length part ≡ 21 + contextGiven part
 unfolding lengthOf
 add-size part f = formed-are addMethod 5 part f .size refl
 
@@ -42,9 +42,9 @@ one-of (x ∷ l) e = ap (λ (k : List ℕ). x ∷ k) (nil-of l (omega arith))
 -- ---- the same command, by its method's name
 module _ (d : Device) (n t m : ℕ) (part : List ℕ) (r : Ran) (f : isMalformed m (countOf m) part ≡ false) where
   -- a method that takes nothing
-  as-none : (k : ℕ) → eqb k resetKeyMethod ≡ false → countOf k ≡ 0 → lengthOf k ≡ 0 → m ≡ k → r ≡ runOf d n t k 0 [] → r ≡ runOf d n t m (countOf m) part
+  as-none : (k : ℕ) → eqb k resetKeyMethod ≡ false → countOf k ≡ 0 → lengthOf k part ≡ 0 → m ≡ k → r ≡ runOf d n t k 0 [] → r ≡ runOf d n t m (countOf m) part
   as-none k w c0 l0 e q =
-      let z : length part ≡ 0 = formed-are m (countOf m) part f .size (ap (λ (j : ℕ). eqb j resetKeyMethod) e ∙ w) ∙ ap lengthOf e ∙ l0 in
+      let z : length part ≡ 0 = formed-are m (countOf m) part f .size (ap (λ (j : ℕ). eqb j resetKeyMethod) e ∙ w) ∙ ap (λ (j : ℕ). lengthOf j part) e ∙ l0 in
       rw (nil-of part z, e, c0) q
 
   as-lock : m ≡ lockMethod → r ≡ runOf d n t lockMethod 0 [] → r ≡ runOf d n t m (countOf m) part
@@ -56,7 +56,7 @@ module _ (d : Device) (n t m : ℕ) (part : List ℕ) (r : Ran) (f : isMalformed
   as-unlock e q = as-none unlockMethod refl refl refl e q
 
   -- a command that only tells, with status 0
-  as-told : (k : ℕ) → eqb k resetKeyMethod ≡ false → countOf k ≡ 0 → lengthOf k ≡ 0 → doneOf d n t k [] ≡ d → statusOf d n t k 0 [] ≡ 0 → m ≡ k → r ≡ unchanged d (answerOf d t k) → r ≡ runOf d n t m (countOf m) part
+  as-told : (k : ℕ) → eqb k resetKeyMethod ≡ false → countOf k ≡ 0 → lengthOf k part ≡ 0 → doneOf d n t k [] ≡ d → statusOf d n t k 0 [] ≡ 0 → m ≡ k → r ≡ unchanged d (answerOf d t k) → r ≡ runOf d n t m (countOf m) part
   as-told k w c0 l0 g s e q =
       as-none k w c0 l0 e (q ∙ ap (λ (x : Device). unchanged x (answerOf d t k)) (sym g) ∙ ran-done d n t k 0 [] s)
 

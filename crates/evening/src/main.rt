@@ -39,21 +39,21 @@ const LOCK: [u8; 27] = [
 ];
 
 // Add: emitter 4101, event 1.1, subscriber object 9 method 3.1, context 01 02 03 04.
-const SUBSCRIBE: [u8; 50] = [
+const SUBSCRIBE: [u8; 52] = [
     0x3B,
     0,
     1,
     0,
     0,
     0,
-    0x31,
+    0x33,
     1,
     0,
     1,
     0,
     0,
     0,
-    0x28,
+    0x2A,
     0,
     0,
     0,
@@ -83,6 +83,8 @@ const SUBSCRIBE: [u8; 50] = [
     3,
     0,
     1,
+    0,
+    4,
     1,
     2,
     3,

@@ -9,10 +9,10 @@ use lib.ListN.{length, drop}
 use lib.Seq.{length-take-le}
 use borrow.Author.Tests.{eqb-true, ne-eqb}
 use Rattle.frame.specs.Limits.{secondsBytes, millisecondsBytes}
-use Rattle.frame.specs.Entry.{leastEntry, entrySize, entriesFill}
+use Rattle.frame.specs.Entry.{leastEntry, parameterOffset, entrySize, entriesFill}
 use Rattle.frame.specs.Decide.{keepAliveFill}
 use Rattle.frame.specs.Scaffold.{restFrom}
-use Rattle.frame.proofs.Entries.{entry-at, entries-first}
+use Rattle.frame.proofs.Entries.{entry-at, entries-first, offset-take}
 use Rattle.fields.specs.Place.{entriesFrom, entryBytes}
 
 -- the bytes from entry i on are as many as the walk leaves
@@ -36,6 +36,16 @@ entry-length i n k t h e =
     let w = entry-at k u (entries-get i n k t h e) in
     let l : entrySize k u ≤ length u = omega (arith, w .size, w .high) in
     omega (arith, length-take-le (entrySize k u) u l, w .size, w .low)
+
+-- and its parameters start within it
+pub entry-offset : (i n k : ℕ) (t : List ℕ) → i < n → entriesFill n k t ≡ true → parameterOffset k (entryBytes i k t) ≤ length (entryBytes i k t)
+unfolding entryBytes
+entry-offset i n k t h e =
+    let u = entriesFrom i k t in
+    let w = entry-at k u (entries-get i n k t h e) in
+    let l : entrySize k u ≤ length u = omega (arith, w .size, w .high) in
+    let o = offset-take k (entrySize k u) u (omega (arith, w .size, w .low)) .1 in
+    omega (arith, length-take-le (entrySize k u) u l, w .size, w .start, o)
 
 -- a keep-alive's data that is not seconds is milliseconds
 pub keep-long : (t : List ℕ) → keepAliveFill t ≡ true → (length t ≡ secondsBytes → ⊥) → length t ≡ millisecondsBytes

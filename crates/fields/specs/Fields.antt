@@ -5,10 +5,11 @@ use mathlib.Core.Bool.{cond}
 use lib.ListN.{length, getD}
 use lib.Dec.{eqb}
 use Rattle.octets.specs.Numbers.{be16At, be32At}
-use Rattle.frame.specs.Limits.{secondsBytes}
+use Rattle.frame.specs.Limits.{notification, secondsBytes}
 use Rattle.frame.specs.Places.{handlePlace, commandTargetPlace, commandMethodPlace, commandCountPlace}
 use Rattle.frame.specs.Places.{notificationTargetPlace, notificationMethodPlace, notificationCountPlace}
-use Rattle.frame.specs.Places.{contextPlace, emitterPlace, eventPlace, statusPlace, responseCountPlace}
+use Rattle.frame.specs.Places.{contextCountPlace, emitterPlace, eventPlace, statusPlace, responseCountPlace}
+use Rattle.frame.specs.Entry.{contextCount}
 use Rattle.heartbeat.specs.declared.Heartbeat.{Heartbeat}
 use Rattle.heartbeat.specs.declared.Heartbeat.the-variants.{InSeconds, InMilliseconds}
 use Rattle.fields.specs.declared.Method.{Method}
@@ -30,16 +31,20 @@ commandOf e =
       count = getD e commandCountPlace 0;
     }
 
--- R9. The fields of a notification.
+-- R9. Where a notification's field stands that follows its context, whose bytes move it on by one each.
+abbrev pub behindContext : List ℕ → ℕ → ℕ
+behindContext e place = place + contextCount notification e
+
+-- R9. The fields of a notification; the context itself is a part of the message, as the parameters are.
 unfoldable pub notificationOf : List ℕ → NotificationFields
 notificationOf e =
     record {
       target = be32At e notificationTargetPlace;
       method = methodAt e notificationMethodPlace;
       count = getD e notificationCountPlace 0;
-      context = be32At e contextPlace;
-      emitter = be32At e emitterPlace;
-      event = methodAt e eventPlace;
+      «context_count» = be16At e contextCountPlace;
+      emitter = be32At e (behindContext e emitterPlace);
+      event = methodAt e (behindContext e eventPlace);
     }
 
 -- R9. The fields of a response.

@@ -7,7 +7,8 @@ ghost use mathlib.Core.Path.{_≡_};
 ghost use mathlib.Core.Bool.{true};
 ghost use Prim.Native.Nat.{_+_, _≤_};
 ghost use lib.ListN.{length};
-ghost use Rattle.frame.specs.Entry.{leastEntry};
+ghost use Rattle.frame.specs.Limits.{notification};
+ghost use Rattle.frame.specs.Entry.{parameterOffset};
 ghost use Rattle.frame.specs.Decide.{keepAliveFill};
 ghost use Rattle.fields.specs.Place.{parametersOf};
 ghost use Rattle.fields.specs.Fields.{methodAt, commandOf, notificationOf, responseOf, heartbeatOf};
@@ -28,7 +29,7 @@ pub struct NotificationFields {
     pub target: u32,
     pub method: Method,
     pub count: u8,
-    pub context: u32,
+    pub context_count: u16,
     pub emitter: u32,
     pub event: Method,
 }
@@ -41,11 +42,11 @@ pub struct ResponseFields {
 
 // The entry's parameters, as a part of it.
 pub fn parameters<'a>(kind: u8, e: &'a [u8]) -> &'a [u8]
-    requires { ⌜ leastEntry kind ≤ length (now e) ⌝ }
+    requires { ⌜ parameterOffset kind (now e) ≤ length (now e) ⌝ }
     ensures { λ r. ⌜ now r ≡ parametersOf kind (now (e .entry)) ⌝ }
 {
-    let least = frame::least_entry(kind);
-    &e[least..]
+    let offset = frame::parameter_offset(kind, e);
+    &e[offset..]
 }
 
 fn method_at(e: &[u8], at: usize) -> Method
@@ -71,16 +72,18 @@ pub fn command_of(e: &[u8]) -> CommandFields
 }
 
 pub fn notification_of(e: &[u8]) -> NotificationFields
-    requires { ⌜ 25 ≤ length (now e) ⌝ }
+    requires { ⌜ parameterOffset notification (now e) ≤ length (now e) ⌝ }
     ensures { λ r. ⌜ r ≡ notificationOf (now (e .entry)) ⌝ }
 {
+    let context_count = octets::be16(e, places::CONTEXT_COUNT);
+    let behind = context_count as usize;
     NotificationFields {
         target: octets::be32(e, places::NOTIFICATION_TARGET),
         method: method_at(e, places::NOTIFICATION_METHOD),
         count: e[places::NOTIFICATION_COUNT],
-        context: octets::be32(e, places::CONTEXT),
-        emitter: octets::be32(e, places::EMITTER),
-        event: method_at(e, places::EVENT),
+        context_count,
+        emitter: octets::be32(e, places::EMITTER + behind),
+        event: method_at(e, places::EVENT + behind),
     }
 }
 

@@ -9,10 +9,10 @@ use lib.ListN.{length, drop, getD, length-drop}
 use borrow.Author.Tests.{eq-eqb, ne-eqb, eqb-true, eqb-false}
 use Rattle.laws.proofs.Conds.{cond-left, cond-right}
 use Rattle.laws.proofs.Parts.{nil-of}
-use Rattle.octets.specs.Numbers.{be32At, bytes32}
+use Rattle.octets.specs.Numbers.{be16At, be32At, bytes32}
 use Rattle.octets.specs.Zeros.{zeros}
 use Rattle.frame.specs.Limits.{notification, response}
-use Rattle.frame.specs.Entry.{leastEntry, countPlace, leastCount, countFits, entryFits, entrySize, entriesFill, wellFormed}
+use Rattle.frame.specs.Entry.{leastEntry, contextCount, parameterOffset, isContextBad, countPlace, leastCount, countFits, entryFits, entrySize, entriesFill, wellFormed}
 use Rattle.frame.specs.Counts.{countGiven, wellRows, rowsFromNone, rowsFromOne, CountTells}
 use Rattle.frame.proofs.Entries.{entry-at, entries-first, fits-count, one-size, well-kind}
 
@@ -29,13 +29,13 @@ fits-bare least count bytes e z =
     let p = cond-right (ltb count least) false _ true e false≢true in
     eqb-true count least (cond-left (eqb count least) _ _ true (rw z at (p .1)) false≢true .0)
 
--- the entry at the front of t: its count and its size less the least
-count-fits-at : (k : ℕ) (t : List ℕ) → (entrySize k t ≡ 0 → ⊥) → countFits (leastCount k) (countGiven k t) (be32At t 0 - leastEntry k) ≡ true
-count-fits-at k t nz = fits-count k (be32At t 0) (getD t (countPlace k) 0) (drop (leastEntry k) t) (entry-at k t nz .fits)
+-- the entry at the front of t: its count and its size less its parameter offset
+count-fits-at : (k : ℕ) (t : List ℕ) → (entrySize k t ≡ 0 → ⊥) → countFits (leastCount k) (countGiven k t) (be32At t 0 - parameterOffset k t) ≡ true
+count-fits-at k t nz = fits-count k (parameterOffset k t) (be32At t 0) (getD t (countPlace k) 0) (drop (parameterOffset k t) t) (entry-at k t nz .fits)
 
 -- what a well formed entry has of both
 record Entire (k : ℕ) (e : List ℕ) : Type 0 where
-  pub fits : countFits (leastCount k) (countGiven k e) (be32At e 0 - leastEntry k) ≡ true
+  pub fits : countFits (leastCount k) (countGiven k e) (be32At e 0 - parameterOffset k e) ≡ true
   pub long : be32At e 0 ≡ length e
 
 entire : (k : ℕ) (e : List ℕ) → wellFormed k e ≡ true → Entire k e
@@ -44,26 +44,26 @@ entire k e w =
     let nz = entries-first 0 k e f .0 in
     record { fits = count-fits-at k e nz; long = omega (arith, entry-at k e nz .size, one-size k e f) }
 
-none : (k : ℕ) (e : List ℕ) → wellFormed k e ≡ true → countGiven k e ≡ leastCount k → drop (leastEntry k) e ≡ []
+none : (k : ℕ) (e : List ℕ) → wellFormed k e ≡ true → countGiven k e ≡ leastCount k → drop (parameterOffset k e) e ≡ []
 none k e w q =
     let b = entire k e w in
-    let z = fits-none (leastCount k) (countGiven k e) (be32At e 0 - leastEntry k) (b .fits) q in
-    nil-of (drop (leastEntry k) e) (omega (arith, z, b .long, length-drop (leastEntry k) e))
+    let z = fits-none (leastCount k) (countGiven k e) (be32At e 0 - parameterOffset k e) (b .fits) q in
+    nil-of (drop (parameterOffset k e) e) (omega (arith, z, b .long, length-drop (parameterOffset k e) e))
 
-bare : (k : ℕ) (e : List ℕ) → wellFormed k e ≡ true → drop (leastEntry k) e ≡ [] → countGiven k e ≡ leastCount k
+bare : (k : ℕ) (e : List ℕ) → wellFormed k e ≡ true → drop (parameterOffset k e) e ≡ [] → countGiven k e ≡ leastCount k
 bare k e w q =
     let b = entire k e w in
-    let l : length (drop (leastEntry k) e) ≡ 0 = ap length q in
-    fits-bare (leastCount k) (countGiven k e) (be32At e 0 - leastEntry k) (b .fits) (omega (arith, l, b .long, length-drop (leastEntry k) e))
+    let l : length (drop (parameterOffset k e) e) ≡ 0 = ap length q in
+    fits-bare (leastCount k) (countGiven k e) (be32At e 0 - parameterOffset k e) (b .fits) (omega (arith, l, b .long, length-drop (parameterOffset k e) e))
 
-announced : (k : ℕ) (t : List ℕ) → be32At t 0 ≡ leastEntry k → leastCount k < countGiven k t → entrySize k t ≡ 0
+announced : (k : ℕ) (t : List ℕ) → be32At t 0 ≡ parameterOffset k t → leastCount k < countGiven k t → entrySize k t ≡ 0
 announced k t z h = go (eqb (entrySize k t) 0) refl
   where
     go : (b : Bool) → eqb (entrySize k t) 0 ≡ b → entrySize k t ≡ 0
     go true e = eqb-true (entrySize k t) 0 e
     go false e =
         let f = count-fits-at k t (eqb-false (entrySize k t) 0 e) in
-        let c = fits-bare (leastCount k) (countGiven k t) (be32At t 0 - leastEntry k) f (omega (arith, z)) in
+        let c = fits-bare (leastCount k) (countGiven k t) (be32At t 0 - parameterOffset k t) f (omega (arith, z)) in
         absurd (omega (arith, c, h))
 
 others : (k : ℕ) → (k ≡ notification → ⊥) → leastCount k ≡ 0
@@ -71,7 +71,7 @@ unfolding leastCount
 others k n = simp (ne-eqb k notification n)
 
 worked : map wellRows (0 ∷ 1 ∷ notification ∷ response ∷ []) ≡ rowsFromNone ∷ rowsFromNone ∷ rowsFromOne ∷ rowsFromNone ∷ []
-unfolding wellFormed entriesFill entrySize entryFits countFits leastCount leastEntry countPlace be32At bytes32 zeros
+unfolding wellFormed entriesFill entrySize isContextBad parameterOffset contextCount entryFits countFits leastCount leastEntry countPlace be16At be32At bytes32 zeros
 worked = refl
 
 least-one : leastCount notification ≡ 1

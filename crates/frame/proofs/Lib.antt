@@ -1,5 +1,6 @@
 pub mod Entries
 pub mod Counts
+pub mod Contexts
 pub mod Walks
 pub mod Headers
 pub mod Ways

@@ -7,7 +7,7 @@ use lib.ListN.{getD, drop}
 use Rattle.octets.specs.Numbers.{be32At, bytes32}
 use Rattle.octets.specs.Zeros.{zeros}
 use Rattle.frame.specs.Limits.{notification, response}
-use Rattle.frame.specs.Entry.{leastEntry, countPlace, leastCount, entrySize, wellFormed}
+use Rattle.frame.specs.Entry.{leastEntry, parameterOffset, countPlace, leastCount, entrySize, wellFormed}
 
 -- R9. The parameter count that an entry gives.
 abbrev pub countGiven : ℕ → List ℕ → ℕ
@@ -42,9 +42,9 @@ rowsFromOne = (0 ∷ 0 ∷ 0 ∷ []) ∷ (1 ∷ 0 ∷ 0 ∷ []) ∷ (0 ∷ 1 ∷
 -- Theorem. No parameters and no parameter bytes are the same, for each type: the least count exactly where the part is empty.
 pub record CountTells : Type 0 where
   pub tells : (kind : ℕ) (e : List ℕ) → wellFormed kind e ≡ true
-      → NoneIsBare (leastCount kind) (countGiven kind e) (drop (leastEntry kind) e)
-  -- a higher count in an entry of the least size is no entry, at the front of whatever bytes
-  pub announced : (kind : ℕ) (t : List ℕ) → be32At t 0 ≡ leastEntry kind → leastCount kind < countGiven kind t → entrySize kind t ≡ 0
+      → NoneIsBare (leastCount kind) (countGiven kind e) (drop (parameterOffset kind e) e)
+  -- a higher count in an entry that ends at its parameter offset is no entry, at the front of whatever bytes
+  pub announced : (kind : ℕ) (t : List ℕ) → be32At t 0 ≡ parameterOffset kind t → leastCount kind < countGiven kind t → entrySize kind t ≡ 0
   -- the least count is 1 for a notification, and 0 for the others
   pub least : leastCount notification ≡ 1
   pub others : (kind : ℕ) → (kind ≡ notification → ⊥) → leastCount kind ≡ 0

@@ -3,6 +3,7 @@ pub mod Places
 pub mod Header
 pub mod Entry
 pub mod Counts
+pub mod Contexts
 pub mod Decide
 pub mod Deciding
 pub mod Scaffold

@@ -45,13 +45,17 @@ keepAlive = 4
 abbrev pub leastCommand : ℕ
 leastCommand = 17
 
--- R9. The least notification.
+-- R9. The least notification, whose context is empty.
 abbrev pub leastNotification : ℕ
-leastNotification = 25
+leastNotification = 23
 
 -- R9. The least response.
 abbrev pub leastResponse : ℕ
 leastResponse = 10
+
+-- R9. The most bytes that a context has.
+abbrev pub greatestContext : ℕ
+greatestContext = 64
 
 -- R15. The bytes of a heartbeat in seconds.
 abbrev pub secondsBytes : ℕ

@@ -45,17 +45,21 @@ notificationMethodPlace = 8
 abbrev pub notificationCountPlace : ℕ
 notificationCountPlace = 12
 
--- R9. Where a notification's context stands.
+-- R9. Where the count of a notification's context stands.
+abbrev pub contextCountPlace : ℕ
+contextCountPlace = 13
+
+-- R9. Where the context itself starts.
 abbrev pub contextPlace : ℕ
-contextPlace = 13
+contextPlace = 15
 
--- R9. Where a notification's emitter stands.
+-- R9. Where a notification's emitter stands behind an empty context; each byte of a context moves it on by one.
 abbrev pub emitterPlace : ℕ
-emitterPlace = 17
+emitterPlace = 15
 
--- R9. Where a notification's event stands.
+-- R9. Where its event stands behind an empty context.
 abbrev pub eventPlace : ℕ
-eventPlace = 21
+eventPlace = 19
 
 -- R9. Where a response's status stands.
 abbrev pub statusPlace : ℕ

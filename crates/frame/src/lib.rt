@@ -5,8 +5,10 @@ ghost use Prim.Native.Nat.{_+_, _-_, _^_, _<_, _≤_};
 ghost use lib.ListN.{length};
 ghost use Rattle.octets.specs.Numbers.{be32At};
 ghost use Rattle.frame.specs.Header.{countFault, fieldsFault, headerFault};
-ghost use Rattle.frame.specs.Entry.{leastEntry, countPlace, leastCount, countFits, entryFits, entrySize, entriesFill, wellFormed};
+ghost use Rattle.frame.specs.Entry.{leastEntry, contextCount, parameterOffset, isContextBad};
+ghost use Rattle.frame.specs.Entry.{countPlace, leastCount, countFits, entryFits, entrySize, entriesFill, wellFormed};
 ghost use Rattle.frame.specs.Counts.{CountTells};
+ghost use Rattle.frame.specs.Contexts.{ContextTells};
 ghost use Rattle.frame.specs.Decide.{keepAliveFill, dataSound, decideData, decideHeader, decide};
 ghost use Rattle.frame.specs.Deciding.{Deciding};
 ghost use Rattle.frame.specs.Scaffold.{entriesStand, restFrom, dataRest, hasHeader, Finds};
@@ -38,9 +40,11 @@ pub const KEEP_ALIVE: u8 = 4;
 
 pub const LEAST_COMMAND: usize = 17;
 
-pub const LEAST_NOTIFICATION: usize = 25;
+pub const LEAST_NOTIFICATION: usize = 23;
 
 pub const LEAST_RESPONSE: usize = 10;
+
+pub const GREATEST_CONTEXT: usize = 64;
 
 pub const SECONDS_BYTES: usize = 2;
 
@@ -114,7 +118,7 @@ fn header_fault(s: &[u8]) -> u8
     )
 }
 
-// The least size of an entry, which is also where its parameters start.
+// The least size of an entry, without its context.
 pub fn least_entry(kind: u8) -> usize
     ensures { λ r. ⌜ r ≡ leastEntry kind ⌝ }
 {
@@ -125,6 +129,32 @@ pub fn least_entry(kind: u8) -> usize
         return LEAST_NOTIFICATION;
     }
     LEAST_RESPONSE
+}
+
+// How many bytes the context has of the entry at the front of e: a notification's, which others have not. Nothing is checked.
+pub fn context_count(kind: u8, e: &[u8]) -> usize
+    requires { ⌜ leastEntry kind ≤ length (now e) ⌝ }
+    ensures { λ r. ⌜ (r ≡ contextCount kind (now (e .entry))) × (r < 2 ^ 16) ⌝ }
+{
+    if kind == NOTIFICATION {
+        return octets::be16(e, places::CONTEXT_COUNT) as usize;
+    }
+    0
+}
+
+// Where the parameters start of the entry at the front of e.
+pub fn parameter_offset(kind: u8, e: &[u8]) -> usize
+    requires { ⌜ leastEntry kind ≤ length (now e) ⌝ }
+    ensures { λ r. ⌜ (r ≡ parameterOffset kind (now (e .entry))) × (r < 2 ^ 17) ⌝ }
+{
+    least_entry(kind) + context_count(kind, e)
+}
+
+fn is_context_bad(kind: u8, t: &[u8]) -> bool
+    requires { ⌜ leastEntry kind ≤ length (now t) ⌝ }
+    ensures { λ r. ⌜ r ≡ isContextBad kind (now (t .entry)) ⌝ }
+{
+    (GREATEST_CONTEXT < context_count(kind, t)) | (t.len() < parameter_offset(kind, t))
 }
 
 fn count_place(kind: u8) -> usize
@@ -162,17 +192,16 @@ fn count_fits(least: u8, count: u8, bytes: usize) -> bool
 }
 
 // The entry check: part is the message from the entry's parameter offset on.
-fn entry_fits(kind: u8, size: usize, count: u8, part: &[u8]) -> bool
-    ensures { λ r. ⌜ r ≡ entryFits kind size count (now (part .entry)) ⌝ }
+fn entry_fits(kind: u8, offset: usize, size: usize, count: u8, part: &[u8]) -> bool
+    ensures { λ r. ⌜ r ≡ entryFits kind offset size count (now (part .entry)) ⌝ }
 {
-    let least = least_entry(kind);
-    if size < least {
+    if size < offset {
         return false;
     }
-    if part.len() < size - least {
+    if part.len() < size - offset {
         return false;
     }
-    count_fits(least_count(kind), count, size - least)
+    count_fits(least_count(kind), count, size - offset)
 }
 
 // The size that the entry at the front of t gives: its size, where it is known to be well formed. Nothing is checked.
@@ -187,13 +216,16 @@ pub fn given_size(t: &[u8]) -> usize
 fn entry_size(t: &[u8], kind: u8) -> usize
     ensures { λ r. ⌜ (r ≡ entrySize kind (now (t .entry))) × (r ≤ length (now (t .entry))) ⌝ }
 {
-    let least = least_entry(kind);
-    if t.len() < least {
+    if t.len() < least_entry(kind) {
         return 0;
     }
+    if is_context_bad(kind, t) {
+        return 0;
+    }
+    let offset = parameter_offset(kind, t);
     let size = given_size(t);
     let at = count_place(kind);
-    if entry_fits(kind, size, t[at], &t[least..]) {
+    if entry_fits(kind, offset, size, t[at], &t[offset..]) {
         return size;
     }
     0
@@ -260,6 +292,11 @@ pub fn well_formed(kind: u8, e: &[u8]) -> bool
 // R12. No parameters and no parameter bytes are the same, whatever the type.
 pub fn count_tells()
     ensures { λ r. ⌜ CountTells ⌝ }
+{}
+
+// R9. A context has at most 64 bytes, and the parameters start behind it.
+pub fn context_tells()
+    ensures { λ r. ⌜ ContextTells ⌝ }
 {}
 
 fn keep_alive_fill(body: &[u8]) -> bool

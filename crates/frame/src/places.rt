@@ -22,11 +22,14 @@ pub const NOTIFICATION_METHOD: usize = 8;
 
 pub const NOTIFICATION_COUNT: usize = 12;
 
-pub const CONTEXT: usize = 13;
+pub const CONTEXT_COUNT: usize = 13;
 
-pub const EMITTER: usize = 17;
+pub const CONTEXT: usize = 15;
 
-pub const EVENT: usize = 21;
+// Behind an empty context: each byte of a context moves them on by one.
+pub const EMITTER: usize = 15;
+
+pub const EVENT: usize = 19;
 
 pub const STATUS: usize = 8;
 

@@ -15,12 +15,13 @@ pub const TABLET_1: u8 = 1;
 
 pub const PANEL: u8 = 2;
 
-// Where a reply has the status of its first command, a keep-alive the last byte of its seconds, and a notification the new value.
+// Where a reply has the status of its first command, a keep-alive the last byte of its seconds, and a notification the new value:
+// the panel's has a context of 4 bytes.
 const STATUS_AT: usize = 18;
 
 const SECONDS_AT: usize = 11;
 
-const VALUE_AT: usize = 39;
+const VALUE_AT: usize = 41;
 
 // What is printed for a byte past the end.
 const NO_BYTE: u8 = 255;

@@ -22,6 +22,7 @@ handed-tell =
       read = λ bytes r s p q. p ∙ sym q;
       entry = λ bytes index r s p q. p ∙ sym q;
       part = λ bytes index r s p q. p ∙ sym q;
+      context = λ bytes index r s p q. p ∙ sym q;
       started = λ buffer kind entry. both _ _;
       appended = λ buffer kind entry. both _ _;
       kept = λ buffer form value. both _ _;

@@ -8,9 +8,10 @@ use Rattle.answers.specs.declared.Numbers.{Numbers}
 use Rattle.endpoint.specs.Outcome.{Outcome, outcome}
 use Rattle.endpoint.specs.declared.Record.{Record}
 use Rattle.reader.specs.Entry.{partOf, partStart}
+use Rattle.reader.specs.Context.{entryContext, contextStart}
 use Rattle.writer.specs.Numbers.{Writing, writing, writtenNumbers}
 use Rattle.writer.specs.declared.Written as answer
-use Rattle.host.specs.Messages.{partFrom, writtenOf}
+use Rattle.host.specs.Messages.{partFrom, contextFrom, writtenOf}
 use Rattle.host.specs.declared.messages.Part.{Part}
 use Rattle.host.specs.declared.messages.Written.{Written}
 
@@ -36,3 +37,7 @@ written-told o r buf w e q =
 pub part-told : (s : List ℕ) (i a l : ℕ) → a ≡ partStart s i → l ≡ length (partOf s i) → partWith a l ≡ partFrom s i
 unfolding partFrom
 part-told s i a l q e = ap₂ partWith q e
+
+pub context-told : (s : List ℕ) (i a l : ℕ) → a ≡ contextStart s i → l ≡ length (entryContext s i) → partWith a l ≡ contextFrom s i
+unfolding contextFrom
+context-told s i a l q e = ap₂ partWith q e

@@ -7,6 +7,7 @@ use lib.Dec.{eqb}
 use Rattle.numbers.specs.Refusal.{notRefused}
 use Rattle.frame.specs.Limits.{notification, response}
 use Rattle.reader.specs.Entry.{partOf, partStart}
+use Rattle.reader.specs.Context.{entryContext, contextStart}
 use Rattle.host.specs.declared.messages.Reading.{Reading}
 use Rattle.host.specs.declared.messages.Entry.{Entry}
 use Rattle.host.specs.declared.messages.Part.{Part}
@@ -41,7 +42,7 @@ commandFrom l =
       index = at l 5;
       count = at l 6;
       status = 0;
-      context = 0;
+      «context_count» = 0;
       emitter = 0;
       «event_level» = 0;
       «event_index» = 0;
@@ -60,7 +61,7 @@ notificationFrom l =
       index = at l 4;
       count = at l 5;
       status = 0;
-      context = at l 6;
+      «context_count» = at l 6;
       emitter = at l 7;
       «event_level» = at l 8;
       «event_index» = at l 9;
@@ -79,7 +80,7 @@ plainWith number fault kind handle status count =
       index = 0;
       count = count;
       status = status;
-      context = 0;
+      «context_count» = 0;
       emitter = 0;
       «event_level» = 0;
       «event_index» = 0;
@@ -97,6 +98,10 @@ entryFrom l =
 -- R69. A part: where it starts and how long it is.
 unfoldable pub partFrom : List ℕ → ℕ → Part
 partFrom s i = record { start = partStart s i; length = length (partOf s i) }
+
+-- R69. A context, in the same way.
+unfoldable pub contextFrom : List ℕ → ℕ → Part
+contextFrom s i = record { start = contextStart s i; length = length (entryContext s i) }
 
 -- R69. An answer of the writer of these fields.
 abbrev pub writtenWith : ℕ → ℕ → ℕ → Written

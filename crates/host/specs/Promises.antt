@@ -13,7 +13,7 @@ use Rattle.endpoint.specs.declared.Record.{Record}
 use Rattle.reset.specs.Datagram.{datagramCall}
 use Rattle.writer.specs.Write.{startOf, appendOf, keepAliveOf}
 use Rattle.host.specs.Answers.{clearedOf, openedOf, closedOf, tickedOf, deliveredOf, takenOf, resetOf}
-use Rattle.host.specs.Messages.{readingOf, entryFrom, partFrom, writtenOf}
+use Rattle.host.specs.Messages.{readingOf, entryFrom, partFrom, contextFrom, writtenOf}
 use Rattle.host.specs.declared.Cleared.{Cleared}
 use Rattle.host.specs.declared.Opened.{Opened}
 use Rattle.host.specs.declared.Closed.{Closed}
@@ -73,6 +73,10 @@ EntryHands bytes index r = r ≡ entryFrom (entryOf bytes index)
 abbrev pub PartHands : List ℕ → ℕ → Part → Type 0
 PartHands bytes index r = r ≡ partFrom bytes index
 
+-- R21, R22, R69. An entry's context.
+abbrev pub ContextHands : List ℕ → ℕ → Part → Type 0
+ContextHands bytes index r = r ≡ contextFrom bytes index
+
 -- R25, R69. Start.
 abbrev pub StartHands : List ℕ → ℕ → List ℕ → Written → List ℕ → Type 0
 StartHands buffer kind entry r left = (r ≡ writtenOf (startOf buffer kind entry .answer)) × (left ≡ startOf buffer kind entry .buffer)
@@ -100,6 +104,7 @@ pub record HandedTell : Type 0 where
   pub read : (bytes : List ℕ) → AllowsOne Reading (ReadingHands bytes)
   pub entry : (bytes : List ℕ) (index : ℕ) → AllowsOne Entry (EntryHands bytes index)
   pub part : (bytes : List ℕ) (index : ℕ) → AllowsOne Part (PartHands bytes index)
+  pub context : (bytes : List ℕ) (index : ℕ) → AllowsOne Part (ContextHands bytes index)
   pub started : (buffer : List ℕ) (kind : ℕ) (entry : List ℕ) → AllowsOneLent Written (StartHands buffer kind entry)
   pub appended : (buffer : List ℕ) (kind : ℕ) (entry : List ℕ) → AllowsOneLent Written (AppendHands buffer kind entry)
   pub kept : (buffer : List ℕ) (form value : ℕ) → AllowsOneLent Written (KeepAliveHands buffer form value)

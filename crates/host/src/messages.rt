@@ -8,7 +8,7 @@ ghost use Rattle.numbers.specs.Refusal.{notRefused};
 ghost use Rattle.reader.specs.Numbers.{messageNumbers, readingNumbers, commandNumbers, notificationNumbers, entryNumbers};
 ghost use Rattle.writer.specs.Numbers.{writtenNumbers};
 ghost use Rattle.host.specs.Messages.{readingWith, readingOf, plainWith, entryFrom, writtenWith, writtenOf};
-ghost use Rattle.host.specs.Promises.{ReadingHands, EntryHands, PartHands, StartHands, AppendHands, KeepAliveHands};
+ghost use Rattle.host.specs.Promises.{ReadingHands, EntryHands, PartHands, ContextHands, StartHands, AppendHands, KeepAliveHands};
 
 #[repr(C)]
 pub struct Reading {
@@ -35,7 +35,7 @@ pub struct Entry {
     pub index: u16,
     pub count: u8,
     pub status: u8,
-    pub context: u32,
+    pub context_count: u16,
     pub emitter: u32,
     pub event_level: u16,
     pub event_index: u16,
@@ -131,7 +131,7 @@ fn of_command(c: CommandFields) -> Entry
         index: method.index,
         count: c.count,
         status: 0,
-        context: 0,
+        context_count: 0,
         emitter: 0,
         event_level: 0,
         event_index: 0,
@@ -153,7 +153,7 @@ fn of_notification(n: NotificationFields) -> Entry
         index: method.index,
         count: n.count,
         status: 0,
-        context: n.context,
+        context_count: n.context_count,
         emitter: n.emitter,
         event_level: event.level,
         event_index: event.index,
@@ -174,7 +174,7 @@ fn plain(number: u8, fault: u8, kind: u8, handle: u32, status: u8, count: u8) ->
         index: 0,
         count,
         status,
-        context: 0,
+        context_count: 0,
         emitter: 0,
         event_level: 0,
         event_index: 0,
@@ -217,6 +217,18 @@ pub extern "C" fn melorwyth_entry_part(bytes: &[u8], index: usize) -> Part
     Part {
         start: part.start,
         length: part.length,
+    }
+}
+
+// Where the entry's context stands: `ContextStands` of the reader says that the bytes there are the context.
+#[no_mangle]
+pub extern "C" fn melorwyth_entry_context(bytes: &[u8], index: usize) -> Part
+    ensures { λ r. ⌜ ContextHands (now (bytes .entry)) index r ⌝ }
+{
+    let context = reader::context_place(bytes, index);
+    Part {
+        start: context.start,
+        length: context.length,
     }
 }
 

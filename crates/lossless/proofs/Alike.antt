@@ -1,6 +1,6 @@
 -- What the reader answers on a message rebuilds it; so messages that are read alike are equal. Assumes nothing.
 use Prim.Native.Nat.{ℕ, zero, suc, _≤_, _<_}
-use mathlib.Core.Path.{_≡_, refl, sym, ap, _∙_}
+use mathlib.Core.Path.{_≡_, refl, sym, ap, ap₂, _∙_}
 use mathlib.Core.List.{List, [], _∷_}
 use mathlib.Core.Bool.{Bool, cond, true, false}
 use native.Mathlib.Omega.{arith}
@@ -28,6 +28,7 @@ use Rattle.numbers.specs.Refusal.{notRefused}
 use Rattle.reader.specs.Numbers.{heartbeatNumbers}
 use Rattle.reader.specs.Read.{dataOf, messageOf, readBy, readOf}
 use Rattle.reader.specs.Entry.{partOf}
+use Rattle.reader.specs.Context.{entryContext}
 use Rattle.reader.proofs.Sounds.{kind-low}
 use Rattle.layout.specs.Message.{atFront}
 use Rattle.writer.specs.Numbers.{Writing}
@@ -74,10 +75,12 @@ module _ (s : List ℕ) (n : ℕ) (o : Octets s) (e : decide s ≡ Sound n) (k :
         each = λ i h. let d = getD (entriesIn s n) i [] in
             record {
               answer = answerOf (pduType s) d;
+              context = entryContext s i;
               part = partOf s i;
               entry = answer-numbers (pduType s) d ∙ sym (r .entry i h);
+              within = refl;
               behind = refl;
-              bytes = sym (ap (entryAgain (answerOf (pduType s) d)) (r .part i h) ∙ answer-laid (pduType s) d (in-entry i h));
+              bytes = sym (ap₂ (entryAgain (answerOf (pduType s) d)) (r .context i h) (r .part i h) ∙ answer-laid (pduType s) d (in-entry i h));
             };
       }
 
@@ -92,7 +95,7 @@ module _ (s : List ℕ) (n : ℕ) (o : Octets s) (e : decide s ≡ Sound n) (k :
       let b = a .each i h in
       let g : i < length (entriesIn s n) = omega arith in
       let d = getD (entriesIn s n) i [] in
-      b .bytes ∙ ap (entryAgain (b .answer)) (b .behind ∙ r .part i g)
+      b .bytes ∙ ap₂ (entryAgain (b .answer)) (b .within ∙ r .context i g) (b .behind ∙ r .part i g)
       ∙ entry-laid (pduType s) d (in-entry i g) (b .answer) (b .entry ∙ r .entry i g))
 
 -- bytes that are read as a message of entries
@@ -157,8 +160,10 @@ module _ (s t : List ℕ) (n : ℕ) (o : Octets s) (p : Octets t) (e : decide s 
             let g : i < messageCount s = omega arith in
             record {
               answer = b .answer;
+              context = b .context;
               part = b .part;
               entry = b .entry ∙ a .entry i g;
+              within = b .within ∙ a .context i g;
               behind = b .behind ∙ a .part i g;
               bytes = b .bytes;
             };

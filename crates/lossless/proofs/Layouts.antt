@@ -1,18 +1,21 @@
 -- A well formed entry is its fields laid out, its size in front and its part behind. Assumes nothing.
 use Prim.Native.Nat.{ℕ, suc, _+_, _≤_, _<_}
-use mathlib.Core.Path.{_≡_, refl, sym, ap, _∙_}
+use mathlib.Core.Path.{_≡_, refl, sym, ap, ap₂, _∙_}
 use mathlib.Core.List.{List, [], _∷_, _++_}
 use mathlib.Core.Bool.{Bool, cond, true, false}
 use native.Mathlib.Omega.{arith}
+use native.Mathlib.Decide.{decLe}
 use lib.Dec.{ltb, eqb}
-use lib.ListN.{length, drop, getD, length-drop, take-append-drop}
-use lib.Seq.{drop-drop, drop-cons}
+use lib.ListN.{length, take, drop, getD, length-drop, take-append-drop}
+use lib.Seq.{drop-drop, drop-cons, length-take-le}
+use borrow.Author.Tests.{ltb-true, ltb-false, eqb-true, eqb-false}
 use Rattle.octets.specs.Numbers.{be16At, be32At, bytes16, bytes32, Octets}
 use Rattle.octets.proofs.Digits.{bytes16-be16, bytes32-be32}
-use Rattle.frame.specs.Limits.{notification, leastCommand, leastNotification, leastResponse}
-use Rattle.frame.specs.Entry.{leastEntry, wellFormed}
-use Rattle.frame.proofs.Entries.{entry-at, entries-first, one-size, well-kind}
-use Rattle.fields.specs.Place.{parametersOf}
+use Rattle.frame.specs.Limits.{notification, leastCommand, leastResponse}
+use Rattle.frame.specs.Places.{contextCountPlace}
+use Rattle.frame.specs.Entry.{leastEntry, contextCount, parameterOffset, wellFormed}
+use Rattle.frame.proofs.Entries.{entry-at, entries-first, one-size, well-kind, offset-other, least-command, least-response}
+use Rattle.fields.specs.Place.{parametersOf, contextOf}
 use Rattle.fields.specs.Fields.{methodAt, commandOf, notificationOf, responseOf}
 use Rattle.reader.specs.Numbers.{entryNumbers}
 use Rattle.reader.specs.Entry.{fieldsOf}
@@ -37,15 +40,23 @@ module _ (e : List ℕ) (o : Octets e) where
       sym (take-append-drop 2 (drop at e)) ∙ ap (λ (x : List ℕ). x ++ drop 2 (drop at e)) (sym (bytes16-be16 e at o h))
       ∙ under (bytes16 (be16At e at)) (drop-drop 2 at e)
 
+  moved : {i j : ℕ} → i ≡ j → drop i e ≡ drop j e
+  moved p = ap (λ (m : ℕ). drop m e) p
+
+  -- and so many bytes of it
+  peel : (n at : ℕ) → drop at e ≡ take n (drop at e) ++ drop (at + n) e
+  peel n at = sym (take-append-drop n (drop at e)) ∙ under (take n (drop at e)) (drop-drop n at e)
+
   peel8 : (at : ℕ) → at < length e → drop at e ≡ getD e at 0 ∷ drop (suc at) e
   peel8 at h = drop-cons e at 0 h
 
   module _ (size : be32At e 0 ≡ length e) where
+    sized-as : {n : ℕ} → be32At e 0 ≡ n → (rest : List ℕ) → bytes32 (be32At e 0) ++ rest ≡ bytes32 n ++ rest
+    sized-as z rest = ap (λ (m : ℕ). bytes32 m ++ rest) z
+
     -- the size is the least entry and the part
     sized : (least : ℕ) → least ≤ length e → (rest : List ℕ) → bytes32 (be32At e 0) ++ rest ≡ bytes32 (least + length (drop least e)) ++ rest
-    sized least h rest =
-        let z : be32At e 0 ≡ least + length (drop least e) = omega (arith, length-drop least e) in
-        ap (λ (n : ℕ). bytes32 n ++ rest) z
+    sized least h rest = sized-as (omega (arith, length-drop least e)) rest
 
     command-laid : leastCommand ≤ length e → e ≡ commandAgain (commandOf e) (drop leastCommand e)
     unfolding commandAgain commandOf methodAt
@@ -60,9 +71,16 @@ module _ (e : List ℕ) (o : Octets e) where
         ∙ under (bytes16 (be16At e 12)) (peel16 14 (omega arith) ∙ under (bytes16 (be16At e 14)) (peel8 16 (omega arith))))))
         ∙ sized leastCommand h _
 
-    notification-laid : leastNotification ≤ length e → e ≡ notificationAgain (notificationOf e) (drop leastNotification e)
-    unfolding notificationAgain notificationOf methodAt
+    -- a notification: the context stands between its count and the emitter, and moves on what follows it
+    notification-laid : parameterOffset notification e ≤ length e
+        → e ≡ notificationAgain (notificationOf e) (contextOf notification e) (drop (parameterOffset notification e) e)
+    unfolding notificationAgain notificationOf methodAt contextOf contextCount parameterOffset leastEntry
     notification-laid h =
+        let n = be16At e contextCountPlace in
+        let a : 15 + n + 4 ≡ 19 + n = omega arith in
+        let b : 19 + n + 2 + 2 ≡ 23 + n = omega arith in
+        let l : length (take n (drop 15 e)) ≡ n = length-take-le n (drop 15 e) (omega (arith, length-drop 15 e)) in
+        let z : be32At e 0 ≡ 23 + length (take n (drop 15 e)) + length (drop (23 + n) e) = omega (arith, l, length-drop (23 + n) e) in
         peel32 0 (omega arith)
         ∙ under (bytes32 (be32At e 0))
         (peel32 4 (omega arith)
@@ -73,13 +91,16 @@ module _ (e : List ℕ) (o : Octets e) where
         ∙ under (bytes16 (be16At e 10))
         (peel8 12 (omega arith)
         ∙ under (getD e 12 0 ∷ [])
-        (peel32 13 (omega arith)
-        ∙ under (bytes32 (be32At e 13))
-        (peel32 17 (omega arith)
-        ∙ under (bytes32 (be32At e 17))
-        (peel16 21 (omega arith)
-        ∙ under (bytes16 (be16At e 21)) (peel16 23 (omega arith)))))))))
-        ∙ sized leastNotification h _
+        (peel16 13 (omega arith)
+        ∙ under (bytes16 n)
+        (peel n 15
+        ∙ under (take n (drop 15 e))
+        (peel32 (15 + n) (omega arith)
+        ∙ under (bytes32 (be32At e (15 + n)))
+        (moved a
+        ∙ (peel16 (19 + n) (omega arith)
+        ∙ under (bytes16 (be16At e (19 + n))) (peel16 (19 + n + 2) (omega arith) ∙ under (bytes16 (be16At e (19 + n + 2))) (moved b)))))))))))
+        ∙ sized-as z _
 
     response-laid : leastResponse ≤ length e → e ≡ responseAgain (responseOf e) (drop leastResponse e)
     unfolding responseAgain responseOf
@@ -108,34 +129,51 @@ answer-numbers kind e = go (ltb kind notification) (eqb kind notification)
     go false true = refl
     go false false = refl
 
--- an entry's size is its length, and not below the least
-entry-sized : (kind : ℕ) (e : List ℕ) → wellFormed kind e ≡ true → (be32At e 0 ≡ length e) × (leastEntry kind ≤ length e)
+-- an entry's size is its length, and its parameters start within it
+entry-sized : (kind : ℕ) (e : List ℕ) → wellFormed kind e ≡ true → (be32At e 0 ≡ length e) × (parameterOffset kind e ≤ length e)
 entry-sized kind e w =
     let f = well-kind kind e w .1 in
     let a = entry-at kind e (entries-first 0 kind e f .0) in
     let z = one-size kind e f in
-    omega (arith, a .size, a .low)
+    omega (arith, a .size, a .start)
 
--- the entry again, from its own answer and its own part
-pub answer-laid : (kind : ℕ) (e : List ℕ) → EntryOf kind e → entryAgain (answerOf kind e) (parametersOf kind e) ≡ e
-unfolding answerOf entryAgain parametersOf leastEntry
-answer-laid kind e w = let z = entry-sized kind e (w .well) in sym (go (ltb kind notification) (eqb kind notification) (z .0) (z .1))
+-- neither below nor there
+above : (kind : ℕ) → notification ≤ kind → (kind ≡ notification → ⊥) → notification < kind
+above kind h d = go (decLe kind notification)
   where
-    go : (a b : Bool) → be32At e 0 ≡ length e → cond a leastCommand (cond b leastNotification leastResponse) ≤ length e
+    go : Dec (kind ≤ notification) → notification < kind
+    go (yes p) = absurd (d (omega (arith, p, h)))
+    go (no p) = omega (arith, p)
+
+-- the entry again, from its own answer, its own context and its own part
+pub answer-laid : (kind : ℕ) (e : List ℕ) → EntryOf kind e → entryAgain (answerOf kind e) (contextOf kind e) (parametersOf kind e) ≡ e
+unfolding answerOf entryAgain parametersOf
+answer-laid kind e w = let z = entry-sized kind e (w .well) in sym (go (ltb kind notification) (eqb kind notification) refl refl (z .0) (z .1))
+  where
+    go : (a b : Bool) → ltb kind notification ≡ a → eqb kind notification ≡ b → be32At e 0 ≡ length e → parameterOffset kind e ≤ length e
         → e
         ≡ entryAgain (cond a (entry.Command (commandOf e)) (cond b (entry.Notification (notificationOf e)) (entry.Response (responseOf e))))
-        (drop (cond a leastCommand (cond b leastNotification leastResponse)) e)
-    go true b z h = command-laid e (w .bytes) z h
-    go false true z h = notification-laid e (w .bytes) z h
-    go false false z h = response-laid e (w .bytes) z h
+        (contextOf kind e) (drop (parameterOffset kind e) e)
+    go true b p q z h =
+        let k = ltb-true kind notification p in
+        let o = offset-other kind e (λ x. omega arith) ∙ least-command kind k in
+        rw o (command-laid e (w .bytes) z (omega (arith, o)))
+    go false true p q z h =
+        let k = eqb-true kind notification q in
+        rw k (notification-laid e (w .bytes) z (rw k at h))
+    go false false p q z h =
+        let k = ltb-false kind notification p in
+        let d = eqb-false kind notification q in
+        let o = offset-other kind e d ∙ least-response kind (above kind k d) in
+        rw o (response-laid e (w .bytes) z (omega (arith, o)))
 
 -- and from any answer with its numbers
-pub entry-laid : (kind : ℕ) (e : List ℕ) → EntryOf kind e → (r : Entry) → entryNumbers r ≡ fieldsOf kind e → entryAgain r (parametersOf kind e) ≡ e
+pub entry-laid : (kind : ℕ) (e : List ℕ) → EntryOf kind e → (r : Entry) → entryNumbers r ≡ fieldsOf kind e → entryAgain r (contextOf kind e) (parametersOf kind e) ≡ e
 entry-laid kind e w r h =
     let q = numbers-tell .entries r (answerOf kind e) (h ∙ sym (answer-numbers kind e)) in
-    ap (λ (x : Entry). entryAgain x (parametersOf kind e)) q ∙ answer-laid kind e w
+    ap (λ (x : Entry). entryAgain x (contextOf kind e) (parametersOf kind e)) q ∙ answer-laid kind e w
 
 pub entries-told : (kind : ℕ) (e f : List ℕ) → EntryOf kind e → EntryOf kind f → fieldsOf kind e ≡ fieldsOf kind f
-    → parametersOf kind e ≡ parametersOf kind f → e ≡ f
-entries-told kind e f v w n p =
-    sym (answer-laid kind e v) ∙ ap (entryAgain (answerOf kind e)) p ∙ entry-laid kind f w (answerOf kind e) (answer-numbers kind e ∙ n)
+    → contextOf kind e ≡ contextOf kind f → parametersOf kind e ≡ parametersOf kind f → e ≡ f
+entries-told kind e f v w n c p =
+    sym (answer-laid kind e v) ∙ ap₂ (entryAgain (answerOf kind e)) c p ∙ entry-laid kind f w (answerOf kind e) (answer-numbers kind e ∙ n)

@@ -10,10 +10,11 @@ use Rattle.frame.specs.Header.{pduType, messageCount}
 use Rattle.frame.specs.Entry.{wellFormed}
 use Rattle.frame.specs.Decide.{decide}
 use Rattle.frame.specs.declared.Decision.the-variants.{Sound}
-use Rattle.fields.specs.Place.{parametersOf}
+use Rattle.fields.specs.Place.{parametersOf, contextOf}
 use Rattle.numbers.specs.Refusal.{notRefused}
 use Rattle.reader.specs.Read.{readOf}
 use Rattle.reader.specs.Entry.{fieldsOf, entryOf, partOf}
+use Rattle.reader.specs.Context.{entryContext}
 use Rattle.layout.specs.Message.{atFront}
 use Rattle.writer.specs.Write.{leastRoom, written, keepAliveOf}
 use Rattle.writer.specs.Round.{Made, entriesIn, ReadsAs}
@@ -24,16 +25,17 @@ pub record EntryOf (kind : ℕ) (e : List ℕ) : Type 0 where
   pub bytes : Octets e
   pub well : wellFormed kind e ≡ true
 
--- R19, R20, R21. The reader's three calls answer the same on both, for each entry that there is.
+-- R19, R20, R21. The reader's four calls answer the same on both, for each entry that there is.
 pub record ReadAlike (s t : List ℕ) : Type 0 where
   pub message : readOf s ≡ readOf t
   pub entry : (i : ℕ) → i < messageCount s → entryOf s i ≡ entryOf t i
   pub part : (i : ℕ) → i < messageCount s → partOf s i ≡ partOf t i
+  pub context : (i : ℕ) → i < messageCount s → entryContext s i ≡ entryContext t i
 
 -- Theorem. The answers of the reader tell the bytes, of an entry and of a message.
 pub record FieldsDetermine : Type 0 where
   pub entries : (kind : ℕ) (e f : List ℕ) → EntryOf kind e → EntryOf kind f → fieldsOf kind e ≡ fieldsOf kind f
-      → parametersOf kind e ≡ parametersOf kind f → e ≡ f
+      → contextOf kind e ≡ contextOf kind f → parametersOf kind e ≡ parametersOf kind f → e ≡ f
   -- keep-alives too, whatever follows each message
   pub messages : (s t : List ℕ) (n : ℕ) → Octets s → Octets t → decide s ≡ Sound n → ReadAlike s t → take n s ≡ take n t
   -- with nothing behind them

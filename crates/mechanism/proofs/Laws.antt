@@ -24,9 +24,6 @@ use Rattle.mechanism.specs.declared.Mechanism.{Mechanism}
 use Rattle.mechanism.specs.declared.Arming.{Arming}
 
 -- ---- whole arrays, lent as parts
-pub zero-whole : (l : List ℕ) (n : ℕ) (b : Bool) → length l ≡ n → b ≡ allZero (take n l) → b ≡ allZero l
-zero-whole l n b e q = rw (take-all n l (omega arith)) at q
-
 pub same-whole : (g l : List ℕ) (n : ℕ) (b : Bool) → length l ≡ n → b ≡ sameBytes g (take n l) → b ≡ sameBytes g l
 same-whole g l n b e q = rw (take-all n l (omega arith)) at q
 

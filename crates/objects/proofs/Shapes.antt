@@ -1,18 +1,18 @@
 -- Arguments' counts and lengths, and a mute's place. Assumes nothing.
-use Prim.Native.Nat.{ℕ, _-_, _<_, _≤_}
+use Prim.Native.Nat.{ℕ, _+_, _-_, _<_, _≤_}
 use mathlib.Core.Path.{_≡_, refl, sym, ap, _∙_}
 use mathlib.Core.Bool.{Bool, true, false, not, _&&_, _||_, or-false}
 use mathlib.Core.List.{List, [], _∷_}
 use native.Mathlib.Omega.{arith}
-use borrow.Author.Tests.{leb-true, eq-eqb, ne-eqb, eqb-true, not-false}
+use borrow.Author.Tests.{leb-true, ltb-false, eq-eqb, ne-eqb, eqb-true, not-false}
 use lib.Dec.{leb, eqb}
 use lib.ListN.{length, getD}
 use Rattle.laws.proofs.Conds.{cond-right, and-left, and-right}
 use Rattle.laws.proofs.Tables.{or-neither}
 use Rattle.mechanism.specs.Arguments.{isMisfit}
-use Rattle.objects.specs.Methods.{isMute, resetKeyMethod, placeOf, isObject, isTelling, isLocking, isMuting, isSubscribing, hasMethod}
+use Rattle.objects.specs.Methods.{isMute, addMethod, resetKeyMethod, placeOf, isObject, isTelling, isLocking, isMuting, isSubscribing, hasMethod}
 use Rattle.objects.specs.Answers.{classOf, identificationOf, answerWith}
-use Rattle.objects.specs.Tests.{isForbidden, countOf, lengthOf, isLengthBad, isPairBad, isMalformed, firstStatus}
+use Rattle.objects.specs.Tests.{isForbidden, countOf, contextGiven, modeGiven, lengthOf, isLengthBad, isPairBad, isMalformed, isAddBad, firstStatus}
 use Rattle.objects.specs.Scaffold.{Allowed}
 
 -- ---- a mute
@@ -62,9 +62,25 @@ module _ (target m : ℕ) (a b : Bool) (p : a ≡ isTelling m) (q : b ≡ isLock
       rw (← p, ← q, e .0, e .1, ← r, t) (only-managing (isMuting m) _ _)
 
 -- ---- the shape of the arguments
-pub add-long : (m l : ℕ) → m ≡ 196609 → l ≡ lengthOf m → l ≡ 23
-unfolding lengthOf
-add-long m l e q = rw e at q
+module _ (part : List ℕ) where
+  -- 3.1: shorter than any context leaves it, or not as long as its context tells, or the last pair
+  pub add-short : length part < 21 → true ≡ (isLengthBad addMethod part || isPairBad addMethod part)
+  unfolding isLengthBad lengthOf
+  add-short h = rw (ne-eqb (length part) (21 + contextGiven part) (λ e. omega (arith, e, h)))
+
+  module _ (n : ℕ) (c : n ≡ contextGiven part) where
+    pub add-misfit : (length part ≡ 21 + n → ⊥) → true ≡ (isLengthBad addMethod part || isPairBad addMethod part)
+    unfolding isLengthBad lengthOf
+    add-misfit f = rw (← c, ne-eqb (length part) (21 + n) f)
+
+    pub add-pair : length part ≡ 21 + n → not (eqb (getD part (19 + n) 0) 0 && eqb (getD part (20 + n) 0) 0) ≡ (isLengthBad addMethod part || isPairBad addMethod part)
+    unfolding isLengthBad lengthOf isPairBad
+    add-pair e = rw (← c, eq-eqb (length part) (21 + n) e)
+
+  -- a context that is not refused
+  pub add-held : isAddBad part ≡ false → contextGiven part ≤ 64
+  unfolding isAddBad
+  add-held f = ltb-false 64 (contextGiven part) (or-neither (not (eqb (modeGiven part) 1)) _ f .1)
 
 module _ (m count : ℕ) (part : List ℕ) (k : ℕ) (q : k ≡ countOf m) where
   pub count-bad : (count ≡ k → ⊥) → true ≡ isMalformed m count part
@@ -75,23 +91,18 @@ module _ (m count : ℕ) (part : List ℕ) (k : ℕ) (q : k ≡ countOf m) where
   unfolding isMalformed isLengthBad isPairBad
   misfit-is e r b f = rw (← q, eq-eqb count k e, r, ← f, or-false)
 
-  module _ (e : count ≡ k) (r : m ≡ 196622 → ⊥) (l : ℕ) (p : l ≡ lengthOf m) where
-    pub length-bad : (length part ≡ l → ⊥) → true ≡ isMalformed m count part
-    unfolding isMalformed isLengthBad
-    length-bad n = rw (← q, eq-eqb count k e, ne-eqb m 196622 r, ← p, ne-eqb (length part) l n)
+  pub add-is : count ≡ k → m ≡ 196609 → (b : Bool) → b ≡ (isLengthBad addMethod part || isPairBad addMethod part) → b ≡ isMalformed m count part
+  unfolding isMalformed
+  add-is e r b f = rw (← q, eq-eqb count k e, r, f)
 
-    pub pair-none : length part ≡ l → (m ≡ 196609 → ⊥) → false ≡ isMalformed m count part
-    unfolding isMalformed isLengthBad isPairBad
-    pair-none f n = rw (← q, eq-eqb count k e, ne-eqb m 196622 r, ← p, eq-eqb (length part) l f, ne-eqb m 196609 n)
-
-    pub pair-is : length part ≡ l → m ≡ 196609 → not (eqb (getD part 21 0) 0 && eqb (getD part 22 0) 0) ≡ isMalformed m count part
-    unfolding isMalformed isLengthBad isPairBad
-    pair-is f n = rw (← q, eq-eqb count k e, ne-eqb m 196622 r, ← p, eq-eqb (length part) l f, eq-eqb m 196609 n)
+  pub length-is : count ≡ k → (m ≡ 196622 → ⊥) → (m ≡ 196609 → ⊥) → (l : ℕ) → ((p : List ℕ) → l ≡ lengthOf m p) → not (eqb (length part) l) ≡ isMalformed m count part
+  unfolding isMalformed isLengthBad isPairBad
+  length-is e r n l p = rw (← q, eq-eqb count k e, ne-eqb m 196622 r, ← p part, ne-eqb m 196609 n, or-false)
 
 -- what a command that is not malformed has: 3.14 tells its own length
 pub record Formed (m count : ℕ) (part : List ℕ) : Type 0 where
   pub number : count ≡ countOf m
-  pub size : eqb m resetKeyMethod ≡ false → length part ≡ lengthOf m
+  pub size : eqb m resetKeyMethod ≡ false → length part ≡ lengthOf m part
   pub fit : eqb m resetKeyMethod ≡ true → isMisfit part ≡ false
 
 pub formed-are : (m count : ℕ) (part : List ℕ) → isMalformed m count part ≡ false → Formed m count part

@@ -1,11 +1,14 @@
 // The objects and their methods: which there are, what arguments they take, and what a reply carries.
 ghost use mathlib.Core.Path.{_≡_};
-ghost use mathlib.Core.Bool.{true};
-ghost use mathlib.Core.List.{[], _∷_};
-ghost use Prim.Native.Nat.{_<_};
+ghost use mathlib.Core.Bool.{true, _||_};
+ghost use mathlib.Core.List.{List, [], _∷_};
+ghost use Prim.Native.Nat.{_+_, _^_, _<_, _≤_, ℕ};
+ghost use lib.ListN.{length};
 ghost use Rattle.laws.specs.Lists.{all};
-ghost use Rattle.objects.specs.Methods.{isMute, methodNumber, placeOf, isManager, isObject, isTelling, isLocking, hasMethod};
-ghost use Rattle.objects.specs.Tests.{isForbidden, countOf, lengthOf, isMalformed, firstStatus, isMuteValue};
+ghost use Rattle.objects.specs.Methods.{addMethod, isMute, methodNumber, placeOf};
+ghost use Rattle.objects.specs.Methods.{isManager, isObject, isTelling, isLocking, hasMethod};
+ghost use Rattle.objects.specs.Tests.{isForbidden, countOf, contextGiven, isLengthBad, lengthOf, isPairBad};
+ghost use Rattle.objects.specs.Tests.{isAddBad, isMalformed, firstStatus, isMuteValue};
 ghost use Rattle.objects.specs.Answers.{classOf, identificationOf, failedOf, answerWith};
 ghost use Rattle.objects.specs.Scaffold.{MethodsApart};
 
@@ -46,6 +49,17 @@ pub const CHANGE_EVENT: u32 = LEVEL + 1;
 
 // Property 4.1.
 pub const MUTE_PROPERTY: u32 = 4 * LEVEL + 1;
+
+// Of 3.1: its bytes without a context's, where the context's count stands, and behind an empty context the mode and the last pair.
+const LEAST_ADD: usize = 21;
+
+const CONTEXT_COUNT: usize = 16;
+
+pub const CONTEXT: usize = 18;
+
+const MODE: usize = 18;
+
+const PAIR: usize = 19;
 
 pub const MUTED: u8 = 1;
 
@@ -146,14 +160,44 @@ fn count_of(m: u32) -> u8
     0
 }
 
+// How many bytes the context has that 3.1 gives.
+pub fn context_given(part: &[u8]) -> usize
+    requires { ⌜ 18 ≤ length (now part) ⌝ }
+    ensures { λ r. ⌜ (r ≡ contextGiven (now (part .entry))) × (r < 2 ^ 16) ⌝ }
+{
+    octets::be16(part, CONTEXT_COUNT) as usize
+}
+
+// Status 4 for the arguments of 3.1, but for their number.
+fn is_add_misfit(part: &[u8]) -> bool
+    ensures { λ r. ⌜ r ≡ (isLengthBad addMethod (now (part .entry)) || isPairBad addMethod (now (part .entry))) ⌝ }
+{
+    if part.len() < LEAST_ADD {
+        return true;
+    }
+    let n = context_given(part);
+    if part.len() != LEAST_ADD + n {
+        return true;
+    }
+    !((part[PAIR + n] == 0) & (part[PAIR + 1 + n] == 0))
+}
+
+// Status 7 for the arguments of 3.1.
+pub fn is_add_bad(part: &[u8]) -> bool
+    requires { ⌜ 21 + contextGiven (now part) ≤ length (now part) ⌝ }
+    ensures { λ r. ⌜ r ≡ isAddBad (now (part .entry)) ⌝ }
+{
+    let n = context_given(part);
+    (part[MODE + n] != 1) | (frame::GREATEST_CONTEXT < n)
+}
+
+// Of the methods but 3.1 and 3.14, whose arguments tell their length.
 fn length_of(m: u32) -> usize
-    ensures { λ r. ⌜ r ≡ lengthOf m ⌝ }
+    requires { ⌜ (m ≡ addMethod → ⊥) ⌝ }
+    ensures { λ r. ⌜ ((part : List ℕ) → r ≡ lengthOf m part) ⌝ }
 {
     if m == SET {
         return 1;
-    }
-    if m == ADD {
-        return 23;
     }
     if m == REMOVE {
         return 16;
@@ -170,13 +214,10 @@ pub fn is_malformed(m: u32, count: u8, part: &[u8]) -> bool
     if m == RESET_KEY {
         return mechanism::is_misfit(part);
     }
-    if part.len() != length_of(m) {
-        return true;
+    if m == ADD {
+        return is_add_misfit(part);
     }
-    if m != ADD {
-        return false;
-    }
-    !((part[21] == 0) & (part[22] == 0))
+    part.len() != length_of(m)
 }
 
 // The first status that applies of those that are known before the device is looked at.

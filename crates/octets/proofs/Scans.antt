@@ -88,3 +88,7 @@ zeros-of-all (x ∷ l) e =
     let h : x ≡ 0 = eqb-true x 0 (and-left (eqb x 0) (allZero l) e) in
     let t = zeros-of-all l (and-right (eqb x 0) (allZero l) e) in
     ap (λ (y : ℕ). y ∷ l) h ∙ ap (λ (m : List ℕ). 0 ∷ m) t
+
+-- a whole array, lent as a part
+pub zero-whole : (l : List ℕ) (n : ℕ) (b : Bool) → length l ≡ n → b ≡ allZero (take n l) → b ≡ allZero l
+zero-whole l n b e q = rw (take-all n l (omega arith)) at q

@@ -12,3 +12,4 @@ pub mod Heartbeats
 pub mod ResetKey
 pub mod Reset
 pub mod ResetExamples
+pub mod ContextExamples

@@ -7,6 +7,7 @@ ghost use Rattle.promise.specs.Heartbeats.{HeartbeatSent};
 ghost use Rattle.promise.specs.Overrun.{NoOverrun};
 ghost use Rattle.promise.specs.Reset.{ResetByKey, RackFreeAgain};
 ghost use Rattle.promise.specs.ResetExamples.{ResetWorked};
+ghost use Rattle.promise.specs.ContextExamples.{ContextsWorked};
 ghost use Rattle.promise.specs.ResetKey.{LatestKeyCounts, KeyStaysInside};
 
 // Every call keeps the record rules and the area, so refusals 1 and 2 never come in a run.
@@ -62,4 +63,9 @@ pub fn key_stays_inside()
 // Statuses of 3.14, datagrams and a rack that hung, as one computed table.
 pub fn reset_worked()
     ensures { λ _. ⌜ ResetWorked ⌝ }
+{}
+
+// Subscriptions with contexts of 0, 1, 63, 64 and 65 bytes, and what is then sent, as one computed table.
+pub fn contexts_worked()
+    ensures { λ _. ⌜ ContextsWorked ⌝ }
 {}

@@ -10,11 +10,11 @@ use borrow.Author.Tests.{eq-eqb, ne-eqb, ltb-true, eqb-false}
 use Rattle.laws.proofs.Conds.{cond-right}
 use Rattle.frame.specs.Limits.{response, keepAlive}
 use Rattle.frame.specs.Header.{pduType, messageCount}
-use Rattle.frame.specs.Entry.{leastEntry, entriesFill}
+use Rattle.frame.specs.Entry.{leastEntry, parameterOffset, entriesFill}
 use Rattle.frame.specs.Decide.{keepAliveFill, dataSound}
 use Rattle.frame.specs.Scaffold.{SoundAt}
 use Rattle.frame.proofs.Headers.{sound-header}
-use Rattle.fields.proofs.Places.{entry-length}
+use Rattle.fields.proofs.Places.{entry-length, entry-offset}
 use Rattle.reader.specs.Read.{dataOf}
 use Rattle.reader.specs.Entry.{hasEntry, entryAt}
 
@@ -37,3 +37,11 @@ module _ (s : List ℕ) (n : ℕ) (w : SoundAt s n) where
       let p = cond-right (eqb (pduType s) keepAlive) false _ true h false≢true in
       let k = eqb-false (pduType s) keepAlive (p .0) in
       entry-length i (messageCount s) (pduType s) (dataOf s n) (ltb-true i (messageCount s) (p .1)) (entries-data k)
+
+  -- and its parameters start within it
+  pub entry-start : (i : ℕ) → hasEntry (pduType s) (messageCount s) i ≡ true → parameterOffset (pduType s) (entryAt s n i) ≤ length (entryAt s n i)
+  unfolding hasEntry
+  entry-start i h =
+      let p = cond-right (eqb (pduType s) keepAlive) false _ true h false≢true in
+      let k = eqb-false (pduType s) keepAlive (p .0) in
+      entry-offset i (messageCount s) (pduType s) (dataOf s n) (ltb-true i (messageCount s) (p .1)) (entries-data k)

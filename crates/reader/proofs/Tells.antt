@@ -64,7 +64,7 @@ fieldsBack l =
     cond (eqb (getD l 0 0) 0)
     (entry.Command (record { handle = getD l 1 0; target = getD l 2 0; method = methodBack l 3; count = getD l 5 0 }))
     (cond (eqb (getD l 0 0) notification)
-    (entry.Notification (record { target = getD l 1 0; method = methodBack l 2; count = getD l 4 0; context = getD l 5 0; emitter = getD l 6 0; event = methodBack l 7 }))
+    (entry.Notification (record { target = getD l 1 0; method = methodBack l 2; count = getD l 4 0; «context_count» = getD l 5 0; emitter = getD l 6 0; event = methodBack l 7 }))
     (entry.Response (record { handle = getD l 1 0; status = getD l 2 0; count = getD l 3 0 })))
 
 entryBack : List ℕ → Entry
@@ -99,4 +99,6 @@ numbers-tell =
       part = λ s i a b p q. p ∙ sym q;
       start = λ s i a b p q. p ∙ sym q;
       place = λ s i a b p q. ap₂ (λ (x y : ℕ). record { start = x; length = y }) (p .0 ∙ sym (q .0)) (p .1 ∙ sym (q .1));
+      context = λ s i a b p q. p ∙ sym q;
+      context-place = λ s i a b p q. ap₂ (λ (x y : ℕ). record { start = x; length = y }) (p .0 ∙ sym (q .0)) (p .1 ∙ sym (q .1));
     }

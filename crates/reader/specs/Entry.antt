@@ -7,7 +7,7 @@ use lib.ListN.{length, take, drop}
 use lib.Dec.{ltb, eqb}
 use Rattle.frame.specs.Limits.{notification, keepAlive}
 use Rattle.frame.specs.Header.{pduType, messageCount}
-use Rattle.frame.specs.Entry.{leastEntry}
+use Rattle.frame.specs.Entry.{parameterOffset}
 use Rattle.frame.specs.Decide.{decide}
 use Rattle.frame.specs.declared.Decision.{Decision}
 use Rattle.frame.specs.declared.Decision.the-variants.{Undecided, Faulty, Sound}
@@ -61,11 +61,11 @@ partBy (Sound n) s i = partIn s n i
 unfoldable pub partOf : List ℕ → ℕ → List ℕ
 partOf s i = partBy (decide s) s i
 
--- R22. Where that part starts in a sound message: behind the least entry of entry i.
+-- R22. Where that part starts in a sound message: at the parameter offset of entry i.
 unfoldable pub partStartIn : List ℕ → ℕ → ℕ → ℕ
 partStartIn s n i =
     cond (hasEntry (pduType s) (messageCount s) i)
-    ((n - length (entriesFrom i (pduType s) (dataOf s n))) + leastEntry (pduType s))
+    ((n - length (entriesFrom i (pduType s) (dataOf s n))) + parameterOffset (pduType s) (entryAt s n i))
     0
 
 -- R22. Where it starts, by what the bytes decide.

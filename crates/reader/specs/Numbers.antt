@@ -41,7 +41,7 @@ commandNumbers c = 0 ∷ c .handle ∷ c .target ∷ c .method .level ∷ c .met
 unfoldable pub notificationNumbers : NotificationFields → List ℕ
 notificationNumbers n =
     notification ∷ n .target ∷ n .method .level ∷ n .method .index ∷ n .count
-    ∷ n .context ∷ n .emitter ∷ n .event .level ∷ n .event .index ∷ []
+    ∷ n .«context_count» ∷ n .emitter ∷ n .event .level ∷ n .event .index ∷ []
 
 -- R66. The fields of a response in the order of R9, its type first.
 unfoldable pub responseNumbers : ResponseFields → List ℕ

@@ -6,6 +6,7 @@ use Rattle.heartbeat.specs.declared.Heartbeat.{Heartbeat}
 use Rattle.reader.specs.Numbers.{heartbeatNumbers, messageNumbers, readingNumbers, entryNumbers}
 use Rattle.reader.specs.Read.{ReadsMessage}
 use Rattle.reader.specs.Entry.{ReadsEntry, GivesPart, TellsStart, PlacesPart}
+use Rattle.reader.specs.Context.{GivesContext, PlacesContext}
 use Rattle.reader.specs.declared.Message.{Message}
 use Rattle.reader.specs.declared.Reading.{Reading}
 use Rattle.reader.specs.declared.Entry.{Entry}
@@ -22,3 +23,5 @@ pub record NumbersTell : Type 0 where
   pub part : (s : List ℕ) (i : ℕ) (a b : List ℕ) → GivesPart s i a → GivesPart s i b → a ≡ b
   pub start : (s : List ℕ) (i a b : ℕ) → TellsStart s i a → TellsStart s i b → a ≡ b
   pub place : (s : List ℕ) (i : ℕ) (a b : Part) → PlacesPart s i a → PlacesPart s i b → a ≡ b
+  pub context : (s : List ℕ) (i : ℕ) (a b : List ℕ) → GivesContext s i a → GivesContext s i b → a ≡ b
+  pub context-place : (s : List ℕ) (i : ℕ) (a b : Part) → PlacesContext s i a → PlacesContext s i b → a ≡ b

@@ -7,13 +7,18 @@ use frame::places;
 use heartbeat::Heartbeat;
 ghost use mathlib.Core.Path.{_≡_};
 ghost use mathlib.Core.List.{[], _∷_};
-ghost use Prim.Native.Nat.{_≤_};
+ghost use mathlib.Core.Bool.{cond};
+ghost use Prim.Native.Nat.{_+_, _≤_};
 ghost use lib.ListN.{length};
-ghost use Rattle.frame.specs.Entry.{leastEntry};
+ghost use lib.Dec.{eqb};
+ghost use Rattle.frame.specs.Limits.{notification};
+ghost use Rattle.frame.specs.Places.{contextPlace};
+ghost use Rattle.frame.specs.Entry.{leastEntry, contextCount, parameterOffset};
 ghost use Rattle.frame.specs.Scaffold.{SoundAt};
 ghost use Rattle.reader.specs.Numbers.{messageNumbers, entryNumbers};
 ghost use Rattle.reader.specs.Read.{messageOf, ReadsMessage};
 ghost use Rattle.reader.specs.Entry.{fieldsOf, ReadsEntry, GivesPart, TellsStart, PlacesPart, PartStands};
+ghost use Rattle.reader.specs.Context.{GivesContext, PlacesContext, ContextStands};
 ghost use Rattle.reader.specs.Scaffold.{placeAt, entryPlace, RestStands};
 ghost use Rattle.reader.specs.Tell.{NumbersTell};
 ghost use Rattle.reader.specs.Examples.{ExamplesRead};
@@ -100,7 +105,7 @@ pub fn read_message(s: &[u8]) -> Reading
 }
 
 fn fields_of(kind: u8, e: &[u8]) -> Entry
-    requires { ⌜ leastEntry kind ≤ length (now e) ⌝ }
+    requires { ⌜ parameterOffset kind (now e) ≤ length (now e) ⌝ }
     ensures { λ r. ⌜ entryNumbers r ≡ fieldsOf kind (now (e .entry)) ⌝ }
 {
     if kind < frame::NOTIFICATION {
@@ -155,7 +160,7 @@ pub fn part_place(s: &[u8], index: usize) -> Part
 {
     match place_of(s, index) {
         Place::At(from, end) => {
-            let start = from + frame::least_entry(s[places::TYPE]);
+            let start = from + frame::parameter_offset(s[places::TYPE], &s[from..end]);
             Part {
                 start,
                 length: end - start,
@@ -187,6 +192,48 @@ pub fn part_start(s: &[u8], index: usize) -> usize
 // The bytes from there on, as many as the part has, are the part.
 pub fn part_stands()
     ensures { λ r. ⌜ PartStands ⌝ }
+{}
+
+// The context of an entry of that type, whose first byte stands at `from`.
+fn context_at(kind: u8, from: usize, e: &[u8]) -> Part
+    requires { ⌜ (leastEntry kind ≤ length (now e)) × (from ≤ 2049) ⌝ }
+    ensures { λ r. ⌜ (r .start ≡ cond (eqb kind notification) (from + contextPlace) 0)
+        × (r .length ≡ contextCount kind (now (e .entry))) ⌝ }
+{
+    if kind != frame::NOTIFICATION {
+        return Part::NONE;
+    }
+    Part {
+        start: from + places::CONTEXT,
+        length: frame::context_count(kind, e),
+    }
+}
+
+// R21, R22. Where the context of entry index stands in s: a notification's alone has one.
+pub fn context_place(s: &[u8], index: usize) -> Part
+    ensures { λ r. ⌜ PlacesContext (now (s .entry)) index r ⌝ }
+{
+    match place_of(s, index) {
+        Place::At(from, end) => context_at(s[places::TYPE], from, &s[from..end]),
+        Place::Fault(_) => Part::NONE,
+        Place::Short => Part::NONE,
+        Place::NoEntry => Part::NONE,
+    }
+}
+
+// R21. The context of entry index, as a slice of s; empty where it is refused or has none.
+pub fn entry_context<'a>(s: &'a [u8], index: usize) -> &'a [u8]
+    ensures { λ r. ⌜ GivesContext (now (s .entry)) index (now r) ⌝ }
+{
+    let context = context_place(s, index);
+    let start = context.start;
+    let end = start + context.length;
+    &s[start..end]
+}
+
+// The bytes from its start on, as many as the context has, are the context.
+pub fn context_stands()
+    ensures { λ r. ⌜ ContextStands ⌝ }
 {}
 
 // The numbers of an answer tell it from every other, and each promise allows one answer.

@@ -2,7 +2,7 @@
 use Prim.Native.Nat.{ℕ, _+_}
 use mathlib.Core.List.{List, [], _∷_, _++_}
 use lib.ListN.{take}
-use Rattle.octets.specs.Numbers.{bytes32}
+use Rattle.octets.specs.Numbers.{bytes16, bytes32}
 use Rattle.heartbeat.specs.Beat.{formOf, valueOf}
 use Rattle.heartbeat.specs.declared.Heartbeat.{Heartbeat}
 use Rattle.frame.specs.Limits.{leastNotification, leastResponse, notification, keepAlive}
@@ -20,10 +20,15 @@ unfoldable pub responseBytes : ℕ → Answer → List ℕ
 responseBytes handle a =
     bytes32 (leastResponse + a .length) ++ (bytes32 handle ++ (a .status ∷ a .count ∷ take (a .length) (a .bytes)))
 
--- R48. The notification's front: to whom, parameter count 2, the context.
+-- R48. The context that a subscription was given: as many of the bytes that it holds as are counted.
+unfoldable pub contextSent : Subscription → List ℕ
+contextSent s = take (s .«context_count») (s .context)
+
+-- R48. The notification's front: to whom, parameter count 2, the context behind its count.
 unfoldable pub subscriberBytes : Subscription → List ℕ
 subscriberBytes s =
-    bytes32 (leastNotification + 6) ++ (bytes32 (s .object) ++ (bytes32 (s .method) ++ (2 ∷ bytes32 (s .context))))
+    bytes32 (leastNotification + 6 + s .«context_count»)
+    ++ (bytes32 (s .object) ++ (bytes32 (s .method) ++ (2 ∷ bytes16 (s .«context_count») ++ contextSent s)))
 
 -- R48. What changed: emitter, event, property 4.1, the value, 1.
 unfoldable pub changeBytes : Subscription → ℕ → List ℕ

@@ -1,3 +1,4 @@
+pub mod Notifications
 pub mod Takes
 pub mod Responses
 pub mod Replies

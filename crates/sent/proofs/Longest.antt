@@ -17,7 +17,7 @@ use Rattle.answers.specs.Numbers.{deliveryNumbers}
 use Rattle.answers.specs.declared.Delivery.the-variants.{Message}
 use Rattle.frame.specs.Limits.{headerEnd, leastResponse}
 use Rattle.frame.specs.Header.{pduType, messageCount, countFault}
-use Rattle.frame.specs.Entry.{leastEntry, countPlace, leastCount, countFits, entryFits, entrySize, entriesFill}
+use Rattle.frame.specs.Entry.{leastEntry, contextCount, parameterOffset, isContextBad, countPlace, leastCount, countFits, entryFits, entrySize, entriesFill}
 use Rattle.frame.specs.Decide.{dataSound, decide}
 use Rattle.frame.specs.declared.Decision.the-variants.{Sound}
 use Rattle.frame.proofs.Bytes.{nil-waits}
@@ -54,7 +54,7 @@ use Rattle.sent.proofs.Replies.{told-reply}
 
 -- ---- one command, with whatever stands behind it
 class-size : (rest : List ℕ) → entrySize 1 (classCommand ++ rest) ≡ 17
-unfolding entrySize entryFits countFits leastEntry countPlace leastCount be32At
+unfolding entrySize entryFits countFits leastEntry contextCount parameterOffset isContextBad countPlace leastCount be32At
 class-size rest = simp (le-ltb (length (classCommand ++ rest)) 17 (omega (arith, length-append classCommand rest)), le-ltb (length rest) 0 (omega arith))
 
 class-status : (d : Device) (n : ℕ) → statusOf d n 4097 classMethod 0 [] ≡ 0
@@ -67,7 +67,7 @@ class-length d n =
     ap (λ (s : ℕ). ranBy d n 4097 classMethod [] s .answer .length) (class-status d n)
 
 first-length : (d : Device) (n : ℕ) (rest : List ℕ) → ranFirst d n 1 (classCommand ++ rest) .answer .length ≡ 12
-unfolding ranFirst ranWith commandOf methodAt parametersOf leastEntry be32At be16At
+unfolding ranFirst ranWith commandOf methodAt parametersOf leastEntry contextCount parameterOffset be32At be16At
 first-length d n rest = rw (class-size rest) (class-length d n)
 
 response-length : (d : Device) (n : ℕ) (rest : List ℕ) → length (responseTo d n 1 (classCommand ++ rest)) ≡ 22

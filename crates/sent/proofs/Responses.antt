@@ -13,7 +13,7 @@ use Rattle.octets.specs.Numbers.{be32At, bytes32, Octets}
 use Rattle.octets.proofs.Digits.{be32-bytes, octets-drop, octets-take}
 use Rattle.numbers.specs.Refusal.{notRefused}
 use Rattle.frame.specs.Limits.{response, leastResponse}
-use Rattle.frame.specs.Entry.{leastEntry, countPlace, leastCount, countFits, entryFits, entrySize, entriesFill}
+use Rattle.frame.specs.Entry.{leastEntry, contextCount, parameterOffset, isContextBad, countPlace, leastCount, countFits, entryFits, entrySize, entriesFill}
 use Rattle.fields.specs.Place.{entriesFrom, entryBytes, parametersOf}
 use Rattle.fields.specs.Fields.{commandOf, responseOf}
 use Rattle.reader.specs.Numbers.{responseNumbers}
@@ -78,7 +78,7 @@ module _ (handle : ℕ) (a : Answer) (f : Fitting a) where
         omega (arith, length-append (take (a .length) (a .bytes)) rest, length-take-le (a .length) (a .bytes) (omega (arith, f .low, f .room)))
 
     size-made : Counted a → entrySize response (responseBytes handle a ++ rest) ≡ leastResponse + a .length
-    unfolding entrySize entryFits leastEntry countPlace leastCount
+    unfolding entrySize entryFits leastEntry contextCount parameterOffset isContextBad countPlace leastCount
     size-made c =
         let t = responseBytes handle a ++ rest in
         let z : leastResponse + a .length - 10 ≡ a .length = omega arith in
@@ -91,7 +91,7 @@ module _ (handle : ℕ) (a : Answer) (f : Fitting a) where
   made-fields h = rw (be32-bytes handle h)
 
   pub made-part : parametersOf response (responseBytes handle a) ≡ take (a .length) (a .bytes)
-  unfolding parametersOf leastEntry responseBytes bytes32
+  unfolding parametersOf leastEntry contextCount parameterOffset responseBytes bytes32
   made-part = refl
 
 -- ---- all of them

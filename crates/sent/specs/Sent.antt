@@ -20,6 +20,7 @@ use Rattle.fields.specs.Fields.{commandOf, heartbeatOf}
 use Rattle.reader.specs.Numbers.{heartbeatNumbers}
 use Rattle.reader.specs.Read.{readOf}
 use Rattle.reader.specs.Entry.{entryOf, partOf}
+use Rattle.reader.specs.Context.{entryContext}
 use Rattle.layout.specs.Message.{atFront}
 use Rattle.area.specs.Area.{undecidedOf}
 use Rattle.connection.specs.State.{closed}
@@ -28,7 +29,7 @@ use Rattle.connection.specs.Kept.{fitsForm}
 use Rattle.subscription.specs.State.{lowestWaiting}
 use Rattle.subscription.specs.declared.Subscription.{Subscription}
 use Rattle.objects.specs.declared.Answer.{Answer}
-use Rattle.replies.specs.Bytes.{keepAliveBytes}
+use Rattle.replies.specs.Bytes.{contextSent, keepAliveBytes}
 use Rattle.device.specs.State.{heardAt}
 use Rattle.device.specs.Run.{muteAt}
 use Rattle.device.specs.declared.Device.{Device}
@@ -58,7 +59,8 @@ pub record NotificationRead (s : List ℕ) (n : ℕ) (e : Subscription) (value :
   pub message : readOf s ≡ notRefused ∷ n ∷ notification ∷ 1 ∷ []
   pub entry : entryOf s 0
       ≡ notRefused ∷ notification ∷ e .object ∷ levelOf (e .method) ∷ indexOf (e .method) ∷ 2
-      ∷ e .context ∷ e .emitter ∷ levelOf (e .event) ∷ indexOf (e .event) ∷ []
+      ∷ e .«context_count» ∷ e .emitter ∷ levelOf (e .event) ∷ indexOf (e .event) ∷ []
+  pub context : entryContext s 0 ≡ contextSent e
   pub part : partOf s 0 ≡ 0 ∷ 4 ∷ 0 ∷ 1 ∷ value ∷ 1 ∷ []
 
 -- R49. The lowest entry that waits.

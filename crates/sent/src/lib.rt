@@ -8,7 +8,7 @@ pub fn sent_is_read()
     ensures { λ _. ⌜ SentIsRead ⌝ }
 {}
 
-// Every notification is. Of a record of the code, since definitions do not say that its numbers have 32 bits.
+// Every notification is. Of a record of the code, since definitions do not say that its numbers have 32 bits and its contexts 64 bytes.
 pub fn notified_is_read(rec: Record)
     ensures { λ _. ⌜ NotifiedIsRead rec ⌝ }
 {}

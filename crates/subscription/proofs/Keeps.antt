@@ -7,12 +7,13 @@ use mathlib.Core.List.{List}
 use lib.Dec.{eqb}
 use Rattle.laws.proofs.Conds.{and-left, and-right}
 use Rattle.laws.proofs.Tables.{and-both, or-cases, or-right, clash, eqb-even}
+use Rattle.octets.specs.Zeros.{zeros, allZero}
 use Rattle.connection.specs.State.{liveAt}
 use Rattle.connection.specs.declared.Connection.{Connection}
 use Rattle.objects.specs.Methods.{changeEvent, isMute}
 use Rattle.subscription.specs.Setters.{withWaiting}
 use Rattle.subscription.specs.State.{free, isTwin, markedOf, toldOf, sweptOf}
-use Rattle.subscription.specs.Obeys.{isFree, isSound, entryObeys, apart}
+use Rattle.subscription.specs.Obeys.{isFree, isContextKept, isSound, entryObeys, apart}
 use Rattle.subscription.specs.Kept.{EntriesKept}
 use Rattle.subscription.specs.declared.Subscription.{Subscription}
 
@@ -22,17 +23,20 @@ pub record Sound (cs : List Connection) (s : Subscription) : Type 0 where
   pub live : liveAt cs (s .connection) ≡ true
   pub mute : isMute (s .emitter) ≡ true
   pub event : eqb (s .event) changeEvent ≡ true
+  pub context : isContextKept (s .«context_count») (s .context) ≡ true
 
 sound-are : (cs : List Connection) (s : Subscription) → isSound cs s ≡ true → Sound cs s
 unfolding isSound
 sound-are cs s k =
-    let k3 = and-left _ (eqb (s .event) changeEvent) k in
+    let k4 = and-left _ (isContextKept (s .«context_count») (s .context)) k in
+    let k3 = and-left _ (eqb (s .event) changeEvent) k4 in
     let k2 = and-left _ (isMute (s .emitter)) k3 in
     record {
       used = and-left (s .used) (liveAt cs (s .connection)) k2;
       live = and-right (s .used) (liveAt cs (s .connection)) k2;
       mute = and-right (s .used && liveAt cs (s .connection)) _ k3;
-      event = and-right (s .used && liveAt cs (s .connection) && isMute (s .emitter)) _ k;
+      event = and-right (s .used && liveAt cs (s .connection) && isMute (s .emitter)) _ k4;
+      context = and-right (s .used && liveAt cs (s .connection) && isMute (s .emitter) && eqb (s .event) changeEvent) _ k;
     }
 
 -- an entry that obeys is free or sound
@@ -46,7 +50,7 @@ obeys-free cs s f = rw f
 
 pub obeys-sound : (cs : List Connection) (s : Subscription) → Sound cs s → entryObeys cs s ≡ true
 unfolding entryObeys isSound
-obeys-sound cs s u = or-right (isFree s) _ (and-both _ _ (and-both _ _ (and-both _ _ (u .used) (u .live)) (u .mute)) (u .event))
+obeys-sound cs s u = or-right (isFree s) _ (and-both _ _ (and-both _ _ (and-both _ _ (and-both _ _ (u .used) (u .live)) (u .mute)) (u .event)) (u .context))
 
 pub free-unused : (s : Subscription) → isFree s ≡ true → s .used ≡ false
 unfolding isFree
@@ -57,7 +61,7 @@ free-unused s h = go (s .used) refl
     go false e = e
 
 free-free : isFree free ≡ true
-unfolding isFree
+unfolding isFree zeros allZero
 free-free = refl
 
 -- ---- twins
@@ -96,7 +100,7 @@ mark-view emitter s = go (s .used && eqb (s .emitter) emitter) refl
 marked-obeys : (cs : List Connection) (s : Subscription) {t : Subscription} → Marked s t → entryObeys cs s ≡ true → entryObeys cs t ≡ true
 marked-obeys cs s (now u) h =
     ⊎-elim (λ f. clash _ (s .used) u (free-unused s f))
-    (λ (k : Sound cs s). obeys-sound cs (withWaiting s true) (record { used = u; live = k .live; mute = k .mute; event = k .event }))
+    (λ (k : Sound cs s). obeys-sound cs (withWaiting s true) (record { used = u; live = k .live; mute = k .mute; event = k .event; context = k .context }))
     (entry-view cs s h)
 marked-obeys cs s not-now h = h
 
@@ -121,7 +125,7 @@ telling : (cs : List Connection) (s : Subscription) → entryObeys cs s ≡ true
 unfolding toldOf
 telling cs s h =
     ⊎-elim (λ f. obeys-free cs (toldOf s) (free-told s f))
-    (λ (u : Sound cs s). obeys-sound cs (toldOf s) (record { used = u .used; live = u .live; mute = u .mute; event = u .event }))
+    (λ (u : Sound cs s). obeys-sound cs (toldOf s) (record { used = u .used; live = u .live; mute = u .mute; event = u .event; context = u .context }))
     (entry-view cs s h)
 
 telling-left : (s t : Subscription) → apart (toldOf s) t ≡ apart s t
@@ -150,7 +154,7 @@ sweeping cs ds s h = ⊎-elim idle (λ u. busy u (liveAt ds (s .connection)) ref
     busy : Sound cs s → (l : Bool) → liveAt ds (s .connection) ≡ l → entryObeys ds (sweptOf ds s) ≡ true
     busy u true l =
         ap (entryObeys ds) (sweep-same ds s (rw (u .used, l)))
-        ∙ obeys-sound ds s (record { used = u .used; live = l; mute = u .mute; event = u .event })
+        ∙ obeys-sound ds s (record { used = u .used; live = l; mute = u .mute; event = u .event; context = u .context })
     busy u false l = ap (entryObeys ds) (sweep-free ds s (rw (u .used, l))) ∙ obeys-free ds free free-free
 
 data Swept (s : Subscription) : Subscription → Type 0 where
@@ -174,7 +178,7 @@ swept-apart stays stays h = h
 standing : (cs ds : List Connection) → ((n : ℕ) → liveAt cs n ≡ true → liveAt ds n ≡ true) → (s : Subscription) → entryObeys cs s ≡ true → entryObeys ds s ≡ true
 standing cs ds k s h =
     ⊎-elim (λ f. obeys-free ds s f)
-    (λ (u : Sound cs s). obeys-sound ds s (record { used = u .used; live = k (s .connection) (u .live); mute = u .mute; event = u .event }))
+    (λ (u : Sound cs s). obeys-sound ds s (record { used = u .used; live = k (s .connection) (u .live); mute = u .mute; event = u .event; context = u .context }))
     (entry-view cs s h)
 
 pub entries-kept : EntriesKept

@@ -15,7 +15,7 @@ use Rattle.connection.proofs.Times.{live-out, live-in}
 use Rattle.connection.specs.declared.Connection.{Connection}
 use Rattle.subscription.specs.State.{isTwin}
 use Rattle.subscription.specs.Obeys.{isFree, isSound, entryObeys, apart}
-use Rattle.subscription.specs.Scaffold.{soundBy}
+use Rattle.subscription.specs.Scaffold.{soundAs}
 use Rattle.subscription.specs.declared.Subscription.{Subscription}
 
 -- no connection has its number
@@ -95,10 +95,10 @@ module _ {cs : List Connection} {i j : ℕ} {l : List Subscription} (d : Subscri
   pub walking-past : length cs ≡ 8 → 8 ≤ getD l (i - 1) d .connection → false ≡ (all (entryObeys cs) l && allPairs apart l)
   walking-past e k = bad (past-obeys cs (getD l (i - 1) d) e k)
 
-  module _ (e : Connection) (b : Bool) (q : b ≡ (isFree (getD l (i - 1) d) || soundBy (getD cs (getD l (i - 1) d .connection) e .live) (getD l (i - 1) d))) (k : getD l (i - 1) d .connection < length cs) where
+  module _ (e : Connection) (b : Bool) (q : b ≡ (isFree (getD l (i - 1) d) || soundAs (getD cs (getD l (i - 1) d .connection) e .live) (getD l (i - 1) d))) (k : getD l (i - 1) d .connection < length cs) where
     told : b ≡ entryObeys cs (getD l (i - 1) d)
     unfolding entryObeys isSound
-    told = let s = getD l (i - 1) d in q ∙ ap (λ (live : Bool). isFree s || soundBy live s) (live-in cs (s .connection) e k)
+    told = let s = getD l (i - 1) d in q ∙ ap (λ (live : Bool). isFree s || soundAs live s) (live-in cs (s .connection) e k)
 
     pub walking-not : b ≡ false → false ≡ (all (entryObeys cs) l && allPairs apart l)
     walking-not u = bad (sym told ∙ u)

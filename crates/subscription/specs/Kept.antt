@@ -9,7 +9,7 @@ use Rattle.subscription.specs.State.{free, markedOf, toldOf, sweptOf}
 use Rattle.subscription.specs.Obeys.{entryObeys, apart}
 use Rattle.subscription.specs.declared.Subscription.{Subscription}
 
--- Theorem. Marking, telling, sweeping and opening keep rules R61g to R61i.
+-- Theorem. Marking, telling, sweeping and opening keep rules R61g to R61i and R61m.
 pub record EntriesKept : Type 0 where
   pub freed : (cs : List Connection) → entryObeys cs free ≡ true
   pub freed-apart : (s : Subscription) → apart free s ≡ true

@@ -4,6 +4,8 @@ use mathlib.Core.Bool.{Bool, true, false, cond, not, _&&_}
 use mathlib.Core.List.{List}
 use lib.Dec.{eqb}
 use Rattle.laws.specs.Lists.{index}
+use Rattle.octets.specs.Zeros.{zeros}
+use Rattle.frame.specs.Limits.{greatestContext}
 use Rattle.connection.specs.State.{liveAt}
 use Rattle.connection.specs.declared.Connection.{Connection}
 use Rattle.subscription.specs.Setters.{withWaiting}
@@ -15,7 +17,18 @@ entryCount = 32
 
 -- R61. Row g: a free entry.
 abbrev pub free : Subscription
-free = record { used = false; waiting = false; connection = 0; emitter = 0; event = 0; object = 0; method = 0; context = 0 }
+free =
+    record {
+      used = false;
+      waiting = false;
+      connection = 0;
+      «context_count» = 0;
+      emitter = 0;
+      event = 0;
+      object = 0;
+      method = 0;
+      context = zeros greatestContext;
+    }
 
 -- R46. The entry is free.
 unfoldable pub isUnused : Subscription → Bool
@@ -25,7 +38,7 @@ isUnused s = not (s .used)
 unfoldable pub isWaiting : Subscription → Bool
 isWaiting s = s .waiting
 
--- R45. Two used entries are the same subscription.
+-- R45. Two used entries are the same subscription, whatever their contexts.
 unfoldable pub isTwin : Subscription → Subscription → Bool
 isTwin s t =
     s .used && t .used && eqb (s .connection) (t .connection) && eqb (s .emitter) (t .emitter) && eqb (s .event) (t .event)

@@ -12,9 +12,10 @@ use lib.Dec.{ltb}
 use Rattle.laws.specs.Lists.{all, allPairs, index}
 use Rattle.laws.proofs.Conds.{and-left, and-right}
 use Rattle.laws.proofs.Loops.{all-at}
-use Rattle.laws.proofs.Tables.{clash}
+use Rattle.laws.proofs.Tables.{clash, getD-any}
 use Rattle.answers.specs.Numbers.{takingNumbers}
 use Rattle.answers.specs.declared.Taking.the-variants.{Nothing, Notification, KeepAlive}
+use Rattle.frame.specs.Limits.{greatestContext}
 use Rattle.mechanism.specs.Obeys.{mechanismObeys}
 use Rattle.layout.specs.Message.{atFront}
 use Rattle.connection.specs.State.{connectionCount, closed, lowestDue}
@@ -25,6 +26,7 @@ use Rattle.connection.proofs.Times.{live-below}
 use Rattle.subscription.specs.State.{entryCount, isWaiting, free, lowestWaiting, toldOf}
 use Rattle.subscription.specs.Obeys.{isFree, entryObeys, apart}
 use Rattle.subscription.specs.declared.Subscription.{Subscription}
+use Rattle.subscription.proofs.Entries.{kept-low}
 use Rattle.subscription.proofs.Keeps.{Sound, entry-view}
 use Rattle.objects.specs.Methods.{placeOf, isMute}
 use Rattle.objects.specs.Tests.{isMuteValue}
@@ -71,11 +73,22 @@ module _ (d : Device) (o : deviceObeys d ≡ true) where
         let cs = d .connections in
         waiting-sound cs (subscriptionAt d i) (all-at (entryObeys cs) (d .subscriptions) i free (device-first d o .1) (omega arith)) w
 
-    pub emitter-mute : isMute (subscriptionAt d i .emitter) ≡ true
-    emitter-mute = entry-sound .mute
+    -- read out of the array, whatever an entry past its end would be
+    module _ (e : Subscription) where
+      pub entry-read : getD (d .subscriptions) i e ≡ subscriptionAt d i
+      entry-read = getD-any (d .subscriptions) i e free (omega arith)
 
-    pub entry-place : length (d .connections) ≡ 8 → subscriptionAt d i .connection < 8
-    entry-place k = omega (arith, live-below (d .connections) (subscriptionAt d i .connection) (entry-sound .live))
+      read-sound : Sound (d .connections) (getD (d .subscriptions) i e)
+      read-sound = rw entry-read entry-sound
+
+      pub emitter-mute : isMute (getD (d .subscriptions) i e .emitter) ≡ true
+      emitter-mute = read-sound .mute
+
+      pub context-low : getD (d .subscriptions) i e .«context_count» ≤ greatestContext
+      context-low = let s = getD (d .subscriptions) i e in kept-low (s .«context_count») (s .context) (read-sound .context)
+
+      pub entry-place : length (d .connections) ≡ 8 → getD (d .subscriptions) i e .connection < 8
+      entry-place k = omega (arith, live-below (d .connections) (getD (d .subscriptions) i e .connection) (read-sound .live))
 
 -- ---- what is found
 pub index-meets : {A : Type 0} (p : A → Bool) (l : List A) (a : A) → index p l < length l → p (getD l (index p l) a) ≡ true
@@ -91,12 +104,12 @@ found-waits l i e s h = rw e (index-meets isWaiting l free (omega arith))
 
 -- ---- what is sent
 module _ (d : Device) (s : Sending) where
-  pub sending-told : (i : ℕ) → i < 32 → subscriptionAt d i .connection < 8
-      → s .place ≡ i → s .entry ≡ toldOf (subscriptionAt d i) → s .number ≡ subscriptionAt d i .connection
-      → s .connection ≡ sentOf (getD (d .connections) (subscriptionAt d i .connection) closed)
+  pub sending-told : (i : ℕ) → i < 32 → (t : Subscription) → t ≡ subscriptionAt d i → t .connection < 8
+      → s .place ≡ i → s .entry ≡ toldOf t → s .number ≡ t .connection
+      → s .connection ≡ sentOf (getD (d .connections) (t .connection) closed)
       → sentIn d s ≡ notifiedOf d i
   unfolding sentIn notifiedOf sentAt toldAt
-  sending-told i h m p e n c = rw (p, e, n, c, lt-ltb i entryCount h, lt-ltb (subscriptionAt d i .connection) connectionCount m)
+  sending-told i h t q m p e n c = rw (p, e, n, c, lt-ltb i entryCount h, lt-ltb (t .connection) connectionCount m, q)
 
   pub sending-reminded : (n : ℕ) → n < 8 → s .place ≡ entryCount → s .number ≡ n → s .connection ≡ sentOf (getD (d .connections) n closed)
       → sentIn d s ≡ sentAt d n
@@ -123,13 +136,13 @@ module _ {A : Type 0} (l m : List A) (i n : ℕ) (x : A) where
   pub put-past : n ≤ i → m ≡ l → m ≡ cond (ltb i n) (set l i x) l
   put-past h e = rw (le-ltb i n h) e
 
-pub notified-is : (d : Device) (i at k : ℕ) (f : Device) (out o : List ℕ) → at ≡ placeOf (subscriptionAt d i .emitter)
-    → k ≡ length (notificationBytes (subscriptionAt d i) (getD (d .mutes) at 0))
-    → o ≡ atFront (notificationBytes (subscriptionAt d i) (getD (d .mutes) at 0)) out
+pub notified-is : (d : Device) (i at k : ℕ) (f : Device) (out o : List ℕ) (t : Subscription) → t ≡ subscriptionAt d i → at ≡ placeOf (t .emitter)
+    → k ≡ length (notificationBytes t (getD (d .mutes) at 0))
+    → o ≡ atFront (notificationBytes t (getD (d .mutes) at 0)) out
     → f ≡ notifiedOf d i
-    → dispatch (takingNumbers (Notification (subscriptionAt d i .connection) k)) f o ≡ notifying d out i
+    → dispatch (takingNumbers (Notification (t .connection) k)) f o ≡ notifying d out i
 unfolding notifying muteAt
-notified-is d i at k f out o a p q e = rw (p, q, e, a)
+notified-is d i at k f out o t s a p q e = rw (p, q, e, a, s)
 
 pub reminded-is : (d : Device) (n k : ℕ) (h : Heartbeat) (f : Device) (out o : List ℕ) → h ≡ heartbeatKept (getD (d .connections) n closed)
     → k ≡ length (keepAliveBytes h) → o ≡ atFront (keepAliveBytes h) out → f ≡ sentAt d n

@@ -14,7 +14,7 @@ use Rattle.octets.specs.Numbers.{be16At, be32At, bytes16, bytes32, Octets}
 use Rattle.octets.proofs.Digits.{be32-bytes}
 use Rattle.frame.specs.Limits.{headerEnd}
 use Rattle.frame.specs.Header.{countFault, fieldsFault, headerFault}
-use Rattle.frame.specs.Entry.{leastEntry, countPlace, leastCount, countFits, entryFits, entrySize, entriesFill}
+use Rattle.frame.specs.Entry.{leastEntry, contextCount, parameterOffset, isContextBad, countPlace, leastCount, countFits, entryFits, entrySize, entriesFill}
 use Rattle.frame.specs.Decide.{dataSound, decideData, decideHeader, decide}
 use Rattle.frame.specs.declared.Decision.the-variants.{Sound}
 use Rattle.fields.specs.Place.{parametersOf}
@@ -49,7 +49,7 @@ use Rattle.technician.specs.Lock.{lockBytes, replyBytes, CanAsk, lockCal
 
 -- ---- the bytes
 pub lock-decided : (handle at : ℕ) → decide (lockBytes handle at) ≡ Sound 27
-unfolding decide decideHeader decideData dataSound headerFault fieldsFault countFault entriesFill entrySize entryFits countFits leastEntry countPlace leastCount be16At be32At lockBytes bytes32
+unfolding decide decideHeader decideData dataSound headerFault fieldsFault countFault entriesFill entrySize entryFits countFits leastEntry contextCount parameterOffset isContextBad countPlace leastCount be16At be32At lockBytes bytes32
 lock-decided handle at = refl
 
 -- the entry behind the header
@@ -59,7 +59,7 @@ entry handle at =
     ∷ bytes32 handle ++ (0x00 ∷ 0x00 ∷ 0x10 ∷ (0x01 + at) ∷ 0x00 ∷ 0x01 ∷ 0x00 ∷ 0x03 ∷ 0x00 ∷ [])
 
 lock-entry : (handle at : ℕ) → entrySize 1 (entry handle at) ≡ 17
-unfolding entry entrySize entryFits countFits leastEntry countPlace leastCount be32At bytes32
+unfolding entry entrySize entryFits countFits leastEntry contextCount parameterOffset isContextBad countPlace leastCount be32At bytes32
 lock-entry handle at = refl
 
 lock-fields : (handle at : ℕ) → handle < 2 ^ 32 → commandOf (take 17 (entry handle at)) ≡ record { handle = handle; target = 4097 + at; method = record { level = 1; index = 3 }; count = 0 }
@@ -70,7 +70,7 @@ lock-fields handle at l =
     rw (h, t) refl
 
 lock-part : (handle at : ℕ) → parametersOf 1 (take 17 (entry handle at)) ≡ []
-unfolding entry parametersOf leastEntry bytes32
+unfolding entry parametersOf leastEntry contextCount parameterOffset bytes32
 lock-part handle at = refl
 
 module _ (d : Device) (k handle at : ℕ) (four : handle < 2 ^ 32) where

@@ -24,6 +24,7 @@ use Rattle.fields.specs.Fields.{heartbeatOf}
 use Rattle.reader.specs.Numbers.{heartbeatNumbers}
 use Rattle.reader.specs.Read.{dataOf, messageOf, readBy, readOf}
 use Rattle.reader.specs.Entry.{hasEntry, entryIn, entryBy, entryOf, partIn, partBy, partOf}
+use Rattle.reader.specs.Context.{contextIn, contextBy, entryContext}
 use Rattle.numbers.specs.Refusal.{notRefused, tooLong, badEntry, noRoom}
 use Rattle.writer.specs.Numbers.{Writing}
 use Rattle.layout.specs.Message.{sizeOf, message, atFront, beatBytes}
@@ -36,7 +37,7 @@ use Rattle.writer.proofs.Heads.{Holds, message-holds}
 
 -- a message of entries is read as they are
 pub reads-as : (s : List ℕ) (n kind count : ℕ) (t : List ℕ) → Holds s n kind count t → kind ≤ response → ReadsAs s n kind (entriesOf count kind t)
-unfolding readOf readBy messageOf entryOf entryBy entryIn partOf partBy partIn hasEntry
+unfolding readOf readBy messageOf entryOf entryBy entryIn partOf partBy partIn entryContext contextBy contextIn hasEntry
 reads-as s n kind count t h k =
     let l = length-entries count kind t in
     let nk = ne-eqb kind keepAlive (λ q. omega arith) in
@@ -45,6 +46,7 @@ reads-as s n kind count t h k =
       bytes = λ i b. rw (h .type, h .body) (sym (entries-index i count kind t (omega arith)));
       entry = λ i b. let lt = lt-ltb i count (omega arith) in rw (h .sound) (simp (h .type, h .number, nk, lt, h .body, entries-index i count kind t (omega arith)));
       part = λ i b. let lt = lt-ltb i count (omega arith) in rw (h .sound) (simp (h .type, h .number, nk, lt, h .body, entries-index i count kind t (omega arith)));
+      context = λ i b. let lt = lt-ltb i count (omega arith) in rw (h .sound) (simp (h .type, h .number, nk, lt, h .body, entries-index i count kind t (omega arith)));
       none = λ i b. let ge = le-ltb i count (omega arith) in rw (h .sound) (simp (h .type, h .number, nk, ge));
     }
 

@@ -6,31 +6,32 @@ use mathlib.Core.Bool.{true}
 use native.Mathlib.Omega.{arith}
 use native.Mathlib.Nat.{not-suc-le-zero}
 use lib.ListN.{length, take, drop, getD, length-append, length-drop, List·getD-append}
-use lib.Seq.{getD-take, length-take-le, take-append-le, drop-append-le, take-length}
+use lib.Seq.{getD-take, length-take-le, take-append-le, take-append-seam, drop-append-le, take-length}
 use borrow.Author.Tests.{eq-eqb, ne-eqb, le-ltb, eqb-true}
 use Rattle.laws.proofs.Parts.{nil-of}
 use Rattle.octets.specs.Numbers.{be32At}
 use Rattle.octets.proofs.Digits.{be32-append, be32-take}
-use Rattle.frame.specs.Entry.{leastEntry, countPlace, leastCount, countFits, entryFits, entrySize, entriesFill}
-use Rattle.frame.proofs.Entries.{EntryAt, entry-at, fits-count, size-within, one-size, entries-first, least-holds}
+use Rattle.frame.specs.Entry.{contextCount, parameterOffset, countPlace, leastCount, countFits, entryFits, fitsAt, entrySize, entriesFill}
+use Rattle.frame.proofs.Entries.{EntryAt, entry-at, entry-make, fits-count, size-within, one-size, entries-first, least-holds, offset-take}
 use Rattle.fields.specs.Place.{entriesFrom, entryBytes}
 use Rattle.writer.specs.Round.{entriesOf}
 
 -- the entry check, put together
-fits-make : (k size count : ℕ) (part : List ℕ) → leastEntry k ≤ size → size - leastEntry k ≤ length part
-    → countFits (leastCount k) count (size - leastEntry k) ≡ true → entryFits k size count part ≡ true
+pub fits-make : (k offset size count : ℕ) (part : List ℕ) → offset ≤ size → size - offset ≤ length part
+    → countFits (leastCount k) count (size - offset) ≡ true → entryFits k offset size count part ≡ true
 unfolding entryFits
-fits-make k size count part low high c =
-    simp (le-ltb size (leastEntry k) low, le-ltb (length part) (size - leastEntry k) high, c)
+fits-make k offset size count part low high c = simp (le-ltb size offset low, le-ltb (length part) (size - offset) high, c)
 
--- bytes with the same size and count, and long enough for it, begin with an entry of the same size
-size-same : (k : ℕ) (t u : List ℕ) → EntryAt k t → be32At u 0 ≡ be32At t 0 → getD u (countPlace k) 0 ≡ getD t (countPlace k) 0
-    → be32At t 0 ≤ length u → entrySize k u ≡ be32At t 0
-unfolding entrySize
-size-same k t u w b g h =
-    let c = fits-count k (be32At t 0) (getD t (countPlace k) 0) (drop (leastEntry k) t) (w .fits) in
-    let f = fits-make k (be32At t 0) (getD t (countPlace k) 0) (drop (leastEntry k) u) (w .low) (omega (arith, length-drop (leastEntry k) u)) c in
-    simp (le-ltb (length u) (leastEntry k) (omega (arith, w .low)), b, g, f)
+-- bytes with the same size, context's count and count, and long enough for it, begin with an entry of the same size
+size-same : (k : ℕ) (t u : List ℕ) → EntryAt k t → be32At u 0 ≡ be32At t 0
+    → (contextCount k u ≡ contextCount k t) × (parameterOffset k u ≡ parameterOffset k t)
+    → getD u (countPlace k) 0 ≡ getD t (countPlace k) 0 → be32At t 0 ≤ length u → entrySize k u ≡ be32At t 0
+size-same k t u w b x g h =
+    let o = parameterOffset k t in
+    let c = fits-count k o (be32At t 0) (getD t (countPlace k) 0) (drop o t) (w .fits) in
+    let f = fits-make k o (be32At t 0) (getD t (countPlace k) 0) (drop o u) (w .start) (omega (arith, length-drop o u)) c in
+    let fit : fitsAt k u ≡ true = rw (x .1, b, g) f in
+    entry-make k u (omega (arith, x .1, w .start)) (omega (arith, x .0, w .context)) fit ∙ b
 
 module _ (k : ℕ) (t : List ℕ) (nz : entrySize k t ≡ 0 → ⊥) where
   size-append : (e : List ℕ) → entrySize k (t ++ e) ≡ entrySize k t
@@ -39,7 +40,9 @@ module _ (k : ℕ) (t : List ℕ) (nz : entrySize k t ≡ 0 → ⊥) where
       let l = least-holds k in
       let low = w .low in
       let high = w .high in
-      size-same k t (t ++ e) w (be32-append t 0 e (omega arith)) (List·getD-append t e 0 (countPlace k) (omega arith)) (omega (arith, length-append t e))
+      let f = offset-take k (length t) (t ++ e) (omega arith) in
+      let x = rw (take-append-seam t e) at f in
+      size-same k t (t ++ e) w (be32-append t 0 e (omega arith)) (sym (x .0), sym (x .1)) (List·getD-append t e 0 (countPlace k) (omega arith)) (omega (arith, length-append t e))
       ∙ sym (w .size)
 
   size-take : entrySize k (take (entrySize k t) t) ≡ entrySize k t
@@ -49,7 +52,8 @@ module _ (k : ℕ) (t : List ℕ) (nz : entrySize k t ≡ 0 → ⊥) where
       let low = w .low in
       let high = w .high in
       let z = w .size in
-      size-same k t (take (entrySize k t) t) w (be32-take t 0 (entrySize k t) (omega arith)) (getD-take (entrySize k t) t (countPlace k) 0 (omega arith)) (omega (arith, length-take-le (entrySize k t) t (omega arith)))
+      let x = offset-take k (entrySize k t) t (omega arith) in
+      size-same k t (take (entrySize k t) t) w (be32-take t 0 (entrySize k t) (omega arith)) x (getD-take (entrySize k t) t (countPlace k) 0 (omega arith)) (omega (arith, length-take-le (entrySize k t) t (omega arith)))
       ∙ sym z
 
   -- the first entry by itself is exactly one entry

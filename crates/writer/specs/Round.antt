@@ -8,10 +8,11 @@ use Rattle.heartbeat.specs.Beat.{secondsForm, millisecondsForm, greatestSeconds
 use Rattle.frame.specs.Limits.{headerEnd, keepAlive}
 use Rattle.frame.specs.Header.{pduType, messageCount}
 use Rattle.frame.specs.Entry.{entrySize}
-use Rattle.fields.specs.Place.{entryBytes, parametersOf}
+use Rattle.fields.specs.Place.{entryBytes, parametersOf, contextOf}
 use Rattle.numbers.specs.Refusal.{noEntry, notRefused, noRoom}
 use Rattle.reader.specs.Read.{dataOf, readOf}
 use Rattle.reader.specs.Entry.{fieldsOf, entryAt, entryOf, partOf}
+use Rattle.reader.specs.Context.{entryContext}
 use Rattle.writer.specs.declared.Written.{Written}
 use Rattle.writer.specs.Numbers.{writtenNumbers}
 use Rattle.layout.specs.Message.{message, atFront}
@@ -33,12 +34,13 @@ entriesOf (suc n) kind t = entryBytes 0 kind t ∷ entriesOf n kind (drop (entry
 abbrev pub entriesIn : List ℕ → ℕ → List (List ℕ)
 entriesIn s n = entriesOf (messageCount s) (pduType s) (dataOf s n)
 
--- R19, R20, R21. The message at the front of s is read as one of n bytes with that type, count, entries and parts.
+-- R19, R20, R21. The message at the front of s is read as one of n bytes with that type, count, entries, parts and contexts.
 pub record ReadsAs (s : List ℕ) (n kind : ℕ) (es : List (List ℕ)) : Type 0 where
   pub message : readOf s ≡ notRefused ∷ n ∷ kind ∷ length es ∷ []
   pub bytes : (i : ℕ) → i < length es → entryAt s n i ≡ getD es i []
   pub entry : (i : ℕ) → i < length es → entryOf s i ≡ fieldsOf kind (getD es i [])
   pub part : (i : ℕ) → i < length es → partOf s i ≡ parametersOf kind (getD es i [])
+  pub context : (i : ℕ) → i < length es → entryContext s i ≡ contextOf kind (getD es i [])
   pub none : (i : ℕ) → length es ≤ i → entryOf s i ≡ noEntry ∷ []
 
 -- Theorem. What start, append (any number of times) and keep-alive write is read as it was given.

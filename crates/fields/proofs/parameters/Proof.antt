@@ -1,13 +1,15 @@
-use Rattle.frame.specs.Entry.{leastEntry}
+use Rattle.frame.specs.Entry.{parameterOffset}
+use Rattle.frame.proofs.Entries.{offset-low}
 use Rattle.fields.specs.Place.{parametersOf}
 use Rattle.laws.proofs.Parts.{rest}
 use denote.Ref.{now}
+use native.Mathlib.Omega.{arith}
 use borrow.Author.Needs.{needs}
 use Rattle.fields.proofs.parameters.Statement.{statement}
 use Rattle.fields.proofs.parameters.Tie as tie
 
-least-entry-requires : tie.Need-least-entry-requires
-least-entry-requires c κs = search needs
+parameter-offset-requires : tie.Need-parameter-offset-requires
+parameter-offset-requires c κs = omega (arith, offset-low (c .before .args .kind) (now (c .before .args .e)))
 
 sub-result : tie.Need-sub-result
 sub-result c = search needs
@@ -20,8 +22,11 @@ part-result-end c = search needs
 
 returns : tie.Need-returns
 unfolding parametersOf
-returns c = cc (rest (leastEntry (c .before .before .before .args .kind)) (now (c .before .before .before .args .e)))
+returns c =
+    let a = c .before .before .before .args in
+    cc (rest (parameterOffset (a .kind) (now (a .e))) (now (a .e)))
 
 pub parameters-spec : {M : Type 1} → statement M
 parameters-spec =
-    tie.close (tie.spec least-entry-requires sub-result part-result-start part-result-end returns)
+    tie.close
+    (tie.spec parameter-offset-requires sub-result part-result-start part-result-end returns)

@@ -1,7 +1,7 @@
 use mathlib.Core.Path.{refl}
 use Rattle.octets.specs.Numbers.{be16At, be32At}
 use Rattle.frame.specs.Header.{countFault, fieldsFault, headerFault}
-use Rattle.frame.specs.Entry.{leastEntry, countPlace, leastCount, countFits, entryFits, entrySize, entriesFill}
+use Rattle.frame.specs.Entry.{leastEntry, contextCount, parameterOffset, isContextBad, countPlace, leastCount, countFits, entryFits, entrySize, entriesFill}
 use Rattle.frame.specs.Decide.{keepAliveFill, dataSound, decideData, decideHeader, decide, taken}
 use Rattle.laws.specs.Decimal.{decimalWithin, decimalOf}
 use Rattle.lines.specs.Text.{numberText, messageLine, stopLine, partLine, endLine}
@@ -11,7 +11,7 @@ use Rattle.lister.proofs.sample_listed.Statement.{statement}
 use Rattle.lister.proofs.sample_listed.Tie as tie
 
 returns : tie.Need-returns
-unfolding listing listingFrom lastLine lastBy unlisted listedBytes linesOf lineOf bytesOf soundMessages soundAmong splitOf splitWithin splitBy decidesSound messageLine stopLine partLine endLine numberText decimalOf decimalWithin decide taken decideHeader decideData dataSound keepAliveFill headerFault fieldsFault countFault entrySize entryFits entriesFill countFits leastEntry countPlace leastCount be16At be32At
+unfolding listing listingFrom lastLine lastBy unlisted listedBytes linesOf lineOf bytesOf soundMessages soundAmong splitOf splitWithin splitBy decidesSound messageLine stopLine partLine endLine numberText decimalOf decimalWithin decide taken decideHeader decideData dataSound keepAliveFill headerFault fieldsFault countFault entrySize entryFits entriesFill countFits leastEntry contextCount parameterOffset isContextBad countPlace leastCount be16At be32At
 returns c = refl
 
 pub sample-listed-spec : {M : Type 1} → statement M

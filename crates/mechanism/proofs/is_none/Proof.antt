@@ -1,4 +1,4 @@
-use Rattle.mechanism.proofs.Laws.{zero-whole}
+use Rattle.octets.proofs.Scans.{zero-whole}
 use borrow.Author.Needs.{needs}
 use Rattle.mechanism.proofs.is_none.Statement.{statement}
 use Rattle.mechanism.proofs.is_none.Tie as tie

@@ -1,5 +1,4 @@
-use Rattle.objects.proofs.Shapes.{count-bad, misfit-is, length-bad, pair-none, pair-is, add-long}
-use native.Mathlib.Omega.{arith}
+use Rattle.objects.proofs.Shapes.{count-bad, misfit-is, add-is, length-is}
 use borrow.Author.Needs.{needs}
 use Rattle.objects.proofs.is_malformed.Statement.{statement}
 use Rattle.objects.proofs.is_malformed.Tie as tie
@@ -16,23 +15,17 @@ is-misfit-requires c κs = search needs
 returns-2 : tie.Need-returns-2
 returns-2 c = search misfit-is
 
+is-add-misfit-requires : tie.Need-is-add-misfit-requires
+is-add-misfit-requires c κs = search needs
+
+returns-3 : tie.Need-returns-3
+returns-3 c = search add-is
+
 length-of-requires : tie.Need-length-of-requires
 length-of-requires c κs = search needs
 
-returns-3 : tie.Need-returns-3
-returns-3 c = search length-bad
-
 returns-4 : tie.Need-returns-4
-returns-4 c = search pair-none
-
-shared-slice-read-result : tie.Need-shared-slice-read-result
-shared-slice-read-result c = omega (arith, add-long _ _ (c .before .if4 .left) (c .before .before .before .length-of .ensures))
-
-shared-slice-read-result-2 : tie.Need-shared-slice-read-result-2
-shared-slice-read-result-2 c = omega (arith, add-long _ _ (c .before .before .if4 .left) (c .before .before .before .before .length-of .ensures))
-
-returns-5 : tie.Need-returns-5
-returns-5 c = search pair-is
+returns-4 c = search length-is
 
 pub is-malformed-spec : {M : Type 1} → statement M
 is-malformed-spec =
@@ -42,9 +35,7 @@ is-malformed-spec =
     returns
     is-misfit-requires
     returns-2
-    length-of-requires
+    is-add-misfit-requires
     returns-3
-    returns-4
-    shared-slice-read-result
-    shared-slice-read-result-2
-    returns-5)
+    length-of-requires
+    returns-4)

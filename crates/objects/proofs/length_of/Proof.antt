@@ -15,9 +15,5 @@ returns-3 : tie.Need-returns-3
 unfolding lengthOf
 returns-3 c = search tests
 
-returns-4 : tie.Need-returns-4
-unfolding lengthOf
-returns-4 c = search tests
-
 pub length-of-spec : {M : Type 1} → statement M
-length-of-spec = tie.close (tie.spec returns returns-2 returns-3 returns-4)
+length-of-spec = tie.close (tie.spec returns returns-2 returns-3)

@@ -1,5 +1,7 @@
 use Rattle.frame.specs.Limits.{notification}
-use Rattle.frame.proofs.Entries.{least-command, least-notification, least-response}
+use Rattle.frame.proofs.Entries.{least-command, least-response, offset-low}
+use mathlib.Core.Path.{_≡_}
+use denote.Ref.{now}
 use native.Mathlib.Omega.{arith}
 use borrow.Author.Tests.{lt-ltb, le-ltb, eq-eqb, ne-eqb}
 use Rattle.reader.specs.Numbers.{entryNumbers}
@@ -10,7 +12,7 @@ use Rattle.reader.proofs.fields_of.Tie as tie
 command-of-requires : tie.Need-command-of-requires
 command-of-requires c κs =
     let a = c .before .before .args in
-    omega (arith, least-command (a .kind) (omega arith))
+    omega (arith, least-command (a .kind) (omega arith), offset-low (a .kind) (now (a .e)))
 
 returns : tie.Need-returns
 unfolding fieldsOf entryNumbers
@@ -18,8 +20,8 @@ returns c = simp (lt-ltb (c .before .before .before .args .kind) notification (o
 
 notification-of-requires : tie.Need-notification-of-requires
 notification-of-requires c κs =
-    let a = c .before .before .before .args in
-    omega (arith, least-notification (a .kind) (omega arith))
+    let k : c .before .before .before .args .kind ≡ notification = omega arith in
+    rw k at (c .before .before .before .pre)
 
 returns-2 : tie.Need-returns-2
 unfolding fieldsOf entryNumbers
@@ -30,7 +32,7 @@ returns-2 c =
 response-of-requires : tie.Need-response-of-requires
 response-of-requires c κs =
     let a = c .before .before .before .args in
-    omega (arith, least-response (a .kind) (omega arith))
+    omega (arith, least-response (a .kind) (omega arith), offset-low (a .kind) (now (a .e)))
 
 returns-3 : tie.Need-returns-3
 unfolding fieldsOf entryNumbers

@@ -1,6 +1,6 @@
 use native.Mathlib.Omega.{arith}
 use Rattle.reader.specs.Scaffold.{startPlaced, lengthPlaced}
-use Rattle.reader.proofs.Places.{placing}
+use Rattle.reader.proofs.Places.{placing, at-least}
 use borrow.Author.Needs.{needs}
 use Rattle.reader.proofs.part_place.Statement.{statement}
 use Rattle.reader.proofs.part_place.Tie as tie
@@ -11,22 +11,39 @@ place-of-requires c κs = search needs
 enum-known-from : tie.Need-enum-known-from
 enum-known-from c = search needs
 
-shared-slice-read-least-entry : tie.Need-shared-slice-read-least-entry
-shared-slice-read-least-entry c =
+shared-slice-read-parameter-offset : tie.Need-shared-slice-read-parameter-offset
+shared-slice-read-parameter-offset c =
     let w = placing _ _ _ (c .before .before .before .before .place-of .ensures) .stands _ _ (c .before .before .from .given .1) in
     omega (arith, w .long)
 
-least-entry-requires : tie.Need-least-entry-requires
-least-entry-requires c κs = search needs
+sub-parameter-offset : tie.Need-sub-parameter-offset
+sub-parameter-offset c =
+    let w = placing _ _ _ (c .before .before .before .before .place-of .ensures) .stands _ _ (c .before .before .from .given .1) in
+    omega (arith, w .low)
+
+part-parameter-offset-start : tie.Need-part-parameter-offset-start
+part-parameter-offset-start c =
+    let w = placing _ _ _ (c .before .before .before .before .place-of .ensures) .stands _ _ (c .before .before .from .given .1) in
+    omega (arith, w .low)
+
+part-parameter-offset-end : tie.Need-part-parameter-offset-end
+part-parameter-offset-end c =
+    let w = placing _ _ _ (c .before .before .before .before .place-of .ensures) .stands _ _ (c .before .before .from .given .1) in
+    omega (arith, w .high)
+
+parameter-offset-requires : tie.Need-parameter-offset-requires
+parameter-offset-requires c κs =
+    let w = placing _ _ _ (c .before .before .before .before .before .place-of .ensures) .stands _ _ (c .before .before .before .from .given .1) in
+    at-least w
 
 add-start : tie.Need-add-start
 add-start c =
-    let w = placing _ _ _ (c .before .before .before .before .before .place-of .ensures) .stands _ _ (c .before .before .before .from .given .1) in
+    let w = placing _ _ _ (c .before .before .before .before .before .before .place-of .ensures) .stands _ _ (c .before .before .before .before .from .given .1) in
     record { fits = omega (arith, w .low, w .high) }
 
 sub-t8 : tie.Need-sub-t8
 sub-t8 c =
-    let w = placing _ _ _ (c .before .before .before .before .before .place-of .ensures) .stands _ _ (c .before .before .before .from .given .1) in
+    let w = placing _ _ _ (c .before .before .before .before .before .before .place-of .ensures) .stands _ _ (c .before .before .before .before .from .given .1) in
     omega (arith, w .low)
 
 enum-told : tie.Need-enum-told
@@ -41,8 +58,8 @@ enum-told-3 c = search needs
 returns : tie.Need-returns
 unfolding startPlaced lengthPlaced
 returns c =
-    let w = rw (c .before .before .before .from .given .1) at (placing _ _ _ (c .before .before .before .before .before .place-of .ensures)) in
-    rw (c .least-entry .ensures) (w .start, w .long)
+    let w = rw (c .before .before .before .before .from .given .1) at (placing _ _ _ (c .before .before .before .before .before .before .place-of .ensures)) in
+    rw (c .parameter-offset .ensures .0) (w .start, w .long)
 
 returns-2 : tie.Need-returns-2
 unfolding startPlaced lengthPlaced
@@ -62,8 +79,11 @@ part-place-spec =
     (tie.spec
     place-of-requires
     enum-known-from
-    shared-slice-read-least-entry
-    least-entry-requires
+    shared-slice-read-parameter-offset
+    sub-parameter-offset
+    part-parameter-offset-start
+    part-parameter-offset-end
+    parameter-offset-requires
     add-start
     sub-t8
     enum-told

@@ -1,6 +1,7 @@
 use Prim.Native.Nat.{ℕ, _+_, _-_, _≤_}
 use mathlib.Core.Path.{_≡_, refl, sym, ap, subst, _∙_}
 use mathlib.Core.Bool.{cond}
+use mathlib.Core.List.{List}
 use mathlib.Core.Logic.{⊎-elim}
 use denote.Ref.{now}
 use native.Mathlib.Omega.{arith}
@@ -10,8 +11,8 @@ use lib.ListN.{length, take, drop}
 use lib.Seq.{sets}
 use Rattle.laws.proofs.Parts.{rest}
 use Rattle.frame.specs.Limits.{leastResponse}
-use Rattle.frame.specs.Entry.{entrySize}
-use Rattle.frame.proofs.Entries.{least-command}
+use Rattle.frame.specs.Entry.{leastEntry, parameterOffset, entrySize}
+use Rattle.frame.proofs.Entries.{offset-other, least-command}
 use Rattle.fields.specs.Place.{parametersOf}
 use Rattle.fields.specs.Fields.{commandOf}
 use Rattle.fields.specs.declared.CommandFields.{CommandFields}
@@ -83,7 +84,9 @@ parameters-requires c κs =
     let a = c .before .before .before .before .before .before .before .before .before .before .before .before .args in
     let w = l .inv .each (a .device) in
     let f = size-given (l .left) (a .kind) (l .t .now) _ (omega arith) (omega arith) (w .fill) (c .before .before .before .before .given-size .ensures .0) in
-    omega (arith, f .1, f .3, least-command (a .kind) (omega arith))
+    let n : a .kind ≡ 2 → ⊥ = λ z. omega arith in
+    let o : (e : List ℕ) → parameterOffset (a .kind) e ≡ leastEntry (a .kind) = λ e. offset-other (a .kind) e n in
+    rw o (omega (arith, f .1, f .3, least-command (a .kind) (omega arith)))
 
 -- src/lib.rt:78:17
 book-requires : tie.Need-book-requires Inv-loop μ-loop

@@ -1,3 +1,4 @@
+use Rattle.octets.specs.Zeros.{zeros}
 use Rattle.subscription.specs.Arguments.{subscriptionFrom}
 use borrow.Author.Needs.{needs}
 use Rattle.subscription.proofs.entry.Statement.{statement}
@@ -16,7 +17,7 @@ be32-requires-4 : tie.Need-be32-requires-4
 be32-requires-4 c κs = search needs
 
 returns : tie.Need-returns
-unfolding subscriptionFrom
+unfolding subscriptionFrom zeros
 returns c = cc
 
 pub entry-spec : {M : Type 1} → statement M

@@ -1,9 +1,12 @@
 use mathlib.Core.Path.{_≡_, refl}
 use Prim.Native.Nat.{_<_}
-use lib.ListN.{length}
+use mathlib.Core.Bool.{true}
+use lib.ListN.{length, getD}
+use Rattle.subscription.specs.State.{isWaiting}
 use Rattle.taking.specs.Dispatch.{subscriptionAt}
+use Rattle.subscription.specs.declared.Subscription.{Subscription}
 use Rattle.laws.proofs.Tables.{length-mapped}
-use Rattle.taking.proofs.Takes.{emitter-mute, entry-place, sending-told, notified-is}
+use Rattle.taking.proofs.Takes.{entry-read, emitter-mute, context-low, entry-place, sending-told, notified-is}
 use borrow.Author.Needs.{needs}
 use Rattle.taking.proofs.notified.Statement.{statement}
 use Rattle.taking.proofs.notified.Tie as tie
@@ -21,7 +24,7 @@ array-read-value : tie.Need-array-read-value
 array-read-value c = search needs
 
 put-notification-requires : tie.Need-put-notification-requires
-put-notification-requires c κs = search needs
+put-notification-requires c κs = (search (context-low, length-mapped, needs), search needs)
 
 cast-number : tie.Need-cast-number
 cast-number c = search needs
@@ -49,10 +52,12 @@ returns c =
     let l : length (d .subscriptions) ≡ 32 = search (length-mapped, needs) in
     let k : length (d .connections) ≡ 8 = search (length-mapped, needs) in
     let h : i < 32 = search needs in
-    let m : subscriptionAt d i .connection < 8 = search (entry-place, needs) in
+    let w : isWaiting (subscriptionAt d i) ≡ true = search needs in
+    let r : (x : Subscription) → getD (d .subscriptions) i x ≡ subscriptionAt d i = entry-read d (e .pre .0) i l h w in
+    let m : (x : Subscription) → getD (d .subscriptions) i x .connection < 8 = λ x. entry-place d (e .pre .0) i l h w x k in
     let put = c .before .before .before .before .before .before .before in
-    notified-is d i _ _ _ _ _ (put .before .before .before .place .ensures .0) (put .put-notification .ensures .0) (put .put-notification .ensures .1)
-    (sending-told d _ i h m refl (c .before .told .ensures) refl (c .sent .ensures))
+    notified-is d i _ _ _ _ _ _ (r _) (put .before .before .before .place .ensures .0) (put .put-notification .ensures .0) (put .put-notification .ensures .1)
+    (sending-told d _ i h _ (r _) (m _) refl (c .before .told .ensures) refl (c .sent .ensures))
 
 pub notified-spec : {M : Type 1} → statement M
 notified-spec =

@@ -19,8 +19,8 @@ put-keep-alive-requires c κs = search needs
 sent-requires : tie.Need-sent-requires
 sent-requires c κs = search needs
 
-cast-t15 : tie.Need-cast-t15
-cast-t15 c = search needs
+cast-t16 : tie.Need-cast-t16
+cast-t16 c = search needs
 
 same-length : tie.Need-same-length
 same-length c = search needs
@@ -37,6 +37,6 @@ reminded-spec =
     heartbeat-requires
     put-keep-alive-requires
     sent-requires
-    cast-t15
+    cast-t16
     same-length
     returns)

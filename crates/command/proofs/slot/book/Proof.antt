@@ -1,4 +1,5 @@
-use Rattle.command.proofs.Books.{book-stopped, book-add, book-remove, added-formed, added-context, added-long, removed-formed, removed-long}
+use Rattle.octets.specs.Zeros.{zeros}
+use Rattle.command.proofs.Books.{book-stopped, book-add, book-remove, added-formed, removed-formed, booked-long}
 use borrow.Author.Needs.{needs}
 use Rattle.command.proofs.slot.book.Statement.{statement}
 use Rattle.command.proofs.slot.book.Tie as tie
@@ -13,13 +14,11 @@ same-requires : tie.Need-same-requires
 same-requires c κs = search needs
 
 returns : tie.Need-returns
+unfolding zeros
 returns c = search (book-stopped, needs)
 
-be32-requires : tie.Need-be32-requires
-be32-requires c κs = search (added-context, needs)
-
 entry-requires : tie.Need-entry-requires
-entry-requires c κs = search (added-long, needs)
+entry-requires c κs = search (booked-long, needs)
 
 slot-for-requires : tie.Need-slot-for-requires
 slot-for-requires c κs = search needs
@@ -28,25 +27,7 @@ subscribe-requires : tie.Need-subscribe-requires
 subscribe-requires c κs = search (added-formed, needs)
 
 returns-2 : tie.Need-returns-2
-returns-2 c =
-    let passed = c .before .before .before .before in
-    search (
-      book-add,
-      passed .before .before .first-status .ensures,
-      passed .before .if1 .left,
-      passed .if2 .taken,
-      c .before .before .before .be32 .ensures,
-      c .before .before .entry .ensures,
-      c .before .slot-for .ensures,
-      c .subscribe .ensures,
-      needs,
-    )
-
-entry-requires-2 : tie.Need-entry-requires-2
-entry-requires-2 c κs = search (removed-long, needs)
-
-slot-for-requires-2 : tie.Need-slot-for-requires-2
-slot-for-requires-2 c κs = search needs
+returns-2 c = search (book-add, needs)
 
 unsubscribe-requires : tie.Need-unsubscribe-requires
 unsubscribe-requires c κs = search (removed-formed, needs)
@@ -62,12 +43,9 @@ book-spec =
     failed-requires
     same-requires
     returns
-    be32-requires
     entry-requires
     slot-for-requires
     subscribe-requires
     returns-2
-    entry-requires-2
-    slot-for-requires-2
     unsubscribe-requires
     returns-3)

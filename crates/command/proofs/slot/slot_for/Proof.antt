@@ -1,3 +1,4 @@
+use Rattle.octets.specs.Zeros.{zeros}
 use Rattle.command.proofs.Books.{Seeking, seeking-none, seeking-more, seeking-found, seeking-missed}
 use borrow.Author.Needs.{needs}
 use Rattle.command.proofs.slot.slot_for.Statement.{statement}
@@ -49,6 +50,7 @@ returns : tie.Need-returns Inv-loop μ-loop
 returns c = search (seeking-found, needs)
 
 returns-2 : tie.Need-returns-2 Inv-loop μ-loop
+unfolding zeros
 returns-2 c = search (seeking-missed, needs)
 
 pub slot-for-spec : {M : Type 1} → statement M

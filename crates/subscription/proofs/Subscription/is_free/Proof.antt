@@ -1,10 +1,8 @@
-use Rattle.subscription.specs.Obeys.{isFree}
 use mathlib.Core.Path.{refl}
 use Rattle.subscription.proofs.Subscription.is_free.Statement.{statement}
 use Rattle.subscription.proofs.Subscription.is_free.Tie as tie
 
 returns : tie.Need-returns
-unfolding isFree
 returns c = refl
 
 pub is-free-spec : {M : Type 1} → statement M

@@ -1,8 +1,10 @@
+use Rattle.octets.specs.Zeros.{zeros}
 use Rattle.subscription.proofs.Entries.{swept-gone, swept-kept}
 use Rattle.subscription.proofs.Subscription.swept.Statement.{statement}
 use Rattle.subscription.proofs.Subscription.swept.Tie as tie
 
 returns : tie.Need-returns
+unfolding zeros
 returns c = search swept-gone
 
 returns-2 : tie.Need-returns-2

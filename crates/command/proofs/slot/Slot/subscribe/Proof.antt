@@ -1,4 +1,4 @@
-use Rattle.command.proofs.Books.{subscribe-strange, subscribe-mode, subscribe-twin, subscribe-full, subscribe-done}
+use Rattle.command.proofs.Books.{subscribe-strange, held-fits, subscribe-bad, subscribe-twin, subscribe-full, subscribe-done}
 use Rattle.device.proofs.Shapes.{add-size}
 use native.Mathlib.Omega.{arith}
 use borrow.Author.Needs.{needs}
@@ -17,8 +17,8 @@ same-requires c κs = search needs
 returns : tie.Need-returns
 returns c = search (subscribe-strange, needs)
 
-shared-slice-read-if2 : tie.Need-shared-slice-read-if2
-shared-slice-read-if2 c = omega (arith, add-size _ (c .before .before .before .before .pre))
+is-add-bad-requires : tie.Need-is-add-bad-requires
+is-add-bad-requires c κs = omega (arith, add-size _ (c .before .before .before .pre))
 
 failed-requires-2 : tie.Need-failed-requires-2
 failed-requires-2 c κs = search needs
@@ -27,7 +27,7 @@ same-requires-2 : tie.Need-same-requires-2
 same-requires-2 c κs = search needs
 
 returns-2 : tie.Need-returns-2
-returns-2 c = search (subscribe-mode, needs)
+returns-2 c = search (subscribe-bad, needs)
 
 failed-requires-3 : tie.Need-failed-requires-3
 failed-requires-3 c κs = search needs
@@ -47,6 +47,9 @@ same-requires-4 c κs = search needs
 returns-4 : tie.Need-returns-4
 returns-4 c = search (subscribe-full, needs)
 
+with-context-requires : tie.Need-with-context-requires
+with-context-requires c κs = held-fits _ (c .before .before .before .before .before .before .before .before .before .pre) _ (c .before .before .before .before .before .is-add-bad .ensures) (c .before .before .before .before .if2 .left)
+
 done-requires : tie.Need-done-requires
 done-requires c κs = search needs
 
@@ -64,7 +67,7 @@ subscribe-spec =
     failed-requires
     same-requires
     returns
-    shared-slice-read-if2
+    is-add-bad-requires
     failed-requires-2
     same-requires-2
     returns-2
@@ -74,6 +77,7 @@ subscribe-spec =
     failed-requires-4
     same-requires-4
     returns-4
+    with-context-requires
     done-requires
     same-requires-5
     returns-5)

@@ -1,3 +1,4 @@
+use Rattle.octets.specs.Zeros.{zeros}
 use Rattle.command.proofs.Books.{unsubscribe-strange, unsubscribe-none, unsubscribe-done}
 use Rattle.device.proofs.Shapes.{remove-size}
 use native.Mathlib.Omega.{arith}
@@ -33,6 +34,7 @@ same-requires-3 : tie.Need-same-requires-3
 same-requires-3 c κs = search needs
 
 returns-3 : tie.Need-returns-3
+unfolding zeros
 returns-3 c = search (unsubscribe-done, needs)
 
 pub unsubscribe-spec : {M : Type 1} → statement M
