@@ -11,9 +11,18 @@
 #define LOCK 0x00010003u
 #define SET 0x00040002u
 #define ADD 0x00030001u
+#define REMOVE 0x00030002u
 #define SET_RESET_KEY 0x0003000Eu
 #define DEVICE_MANAGER 1u
+#define SUBSCRIPTION_MANAGER 4u
 #define FIRST_MUTE 4097u
+/* Event 1.1, a property changed. */
+#define CHANGED 0x00010001u
+/* 3.1 without the context's bytes, and a message with one notification of a mute without them. */
+#define LEAST_ADD 21u
+#define LEAST_NOTIFIED 39u
+/* Longer than the longest context by one. */
+#define TOO_LONG (MELORWYTH_CONTEXT + 1)
 
 static unsigned checked, wrong;
 
@@ -51,11 +60,13 @@ static inline void same_subscription(const melorwyth_subscription *got, const me
     SAME(used);
     SAME(waiting);
     SAME(connection);
+    SAME(context_count);
     SAME(emitter);
     SAME(event);
     SAME(object);
     SAME(method);
-    SAME(context);
+    for (int i = 0; i < MELORWYTH_CONTEXT; i++)
+        SAME(context[i]);
 }
 
 static inline void same_mechanism(const melorwyth_mechanism *got, const melorwyth_mechanism *want)
@@ -88,19 +99,23 @@ static inline void same(const char *after, const melorwyth_record *got, const me
         printf("... after %s\n", after);
 }
 
+static inline void put16(uint8_t *at, uint16_t value)
+{
+    at[0] = (uint8_t)(value >> 8);
+    at[1] = (uint8_t)value;
+}
+
 static inline void put32(uint8_t *at, uint32_t value)
 {
-    at[0] = (uint8_t)(value >> 24);
-    at[1] = (uint8_t)(value >> 16);
-    at[2] = (uint8_t)(value >> 8);
-    at[3] = (uint8_t)value;
+    put16(at, (uint16_t)(value >> 16));
+    put16(at + 2, (uint16_t)value);
 }
 
 /* One command that wants a reply, as a whole message in a buffer; its length. */
 static inline size_t command(uint8_t buffer[MELORWYTH_BUFFER], uint32_t handle, uint32_t target, uint32_t method,
                              uint8_t count, const uint8_t *parameters, size_t length)
 {
-    uint8_t entry[96];
+    uint8_t entry[17 + LEAST_ADD + TOO_LONG];
     put32(entry, (uint32_t)(17 + length));
     put32(entry + 4, handle);
     put32(entry + 8, target);
@@ -118,12 +133,55 @@ static inline size_t arming(uint8_t parameters[64], const uint8_t key[MELORWYTH_
 {
     size_t length = strlen(text);
     memcpy(parameters, key, MELORWYTH_KEY);
-    parameters[16] = (uint8_t)(length >> 8);
-    parameters[17] = (uint8_t)length;
+    put16(parameters + 16, (uint16_t)length);
     memcpy(parameters + 18, text, length);
-    parameters[18 + length] = (uint8_t)(port >> 8);
-    parameters[19 + length] = (uint8_t)port;
+    put16(parameters + 18 + length, port);
     return 20 + length;
+}
+
+/* The parameters of 3.2, which those of 3.1 begin with: what tells a connection's subscriptions apart. Their length. */
+static inline size_t naming(uint8_t parameters[16], const melorwyth_subscription *s)
+{
+    put32(parameters, s->emitter);
+    put32(parameters + 4, s->event);
+    put32(parameters + 8, s->object);
+    put32(parameters + 12, s->method);
+    return 16;
+}
+
+/* The parameters of 3.1, with so many bytes of context, which may be more than a record holds. Their length. */
+static inline size_t adding(uint8_t parameters[LEAST_ADD + TOO_LONG], const melorwyth_subscription *s,
+                            const uint8_t *context, uint16_t count)
+{
+    size_t at = naming(parameters, s);
+    put16(parameters + at, count);
+    memcpy(parameters + at + 2, context, count);
+    at += 2u + count;
+    parameters[at] = 1;
+    parameters[at + 1] = parameters[at + 2] = 0;
+    return at + 3;
+}
+
+/* The message that tells a subscriber that its mute has this value. Its length. */
+static inline size_t notified(uint8_t bytes[LEAST_NOTIFIED + TOO_LONG], const melorwyth_subscription *s,
+                              const uint8_t *context, uint16_t count, uint8_t value)
+{
+    static const uint8_t header[10] = {0x3B, 0, 1, 0, 0, 0, 0, MELORWYTH_TYPE_NOTIFICATION, 0, 1};
+    uint8_t *behind = bytes + 25 + count;
+    memcpy(bytes, header, sizeof header);
+    put32(bytes + 3, LEAST_NOTIFIED - 1u + count);
+    put32(bytes + 10, LEAST_NOTIFIED - 10u + count);
+    put32(bytes + 14, s->object);
+    put32(bytes + 18, s->method);
+    bytes[22] = 2;
+    put16(bytes + 23, count);
+    memcpy(bytes + 25, context, count);
+    put32(behind, s->emitter);
+    put32(behind + 4, s->event);
+    put32(behind + 8, 0x00040001u);
+    behind[12] = value;
+    behind[13] = 1;
+    return LEAST_NOTIFIED + count;
 }
 
 /* The datagram that resets: the sentinel, then the key. */

@@ -35,11 +35,13 @@ static melorwyth_record filled(void)
         s->used = next() & 1;
         s->waiting = next() & 1;
         s->connection = (uint8_t)next();
+        s->context_count = (uint8_t)next();
         s->emitter = (uint32_t)next();
         s->event = (uint32_t)next();
         s->object = (uint32_t)next();
         s->method = (uint32_t)next();
-        s->context = (uint32_t)next();
+        for (int k = 0; k < MELORWYTH_CONTEXT; k++)
+            s->context[k] = (uint8_t)next();
     }
     for (int i = 0; i < MELORWYTH_MUTES; i++) {
         r.device.mutes[i] = (uint8_t)next();
@@ -163,31 +165,29 @@ static void mutes(void)
     }
 }
 
-/* Every subscription entry: added with other numbers each. */
+/* Every subscription entry: added with other numbers each, and with the shortest and longest contexts in turn. */
 static void subscriptions(void)
 {
+    static const uint8_t counts[4] = {0, 1, MELORWYTH_CONTEXT - 1, MELORWYTH_CONTEXT};
     for (uint8_t i = 0; i < MELORWYTH_SUBSCRIPTIONS; i++) {
         melorwyth_subscription *s = &wanted.device.subscriptions[i];
-        uint8_t parameters[23] = {0};
+        uint8_t parameters[LEAST_ADD + TOO_LONG];
         s->used = true;
         s->connection = i % MELORWYTH_CONNECTIONS;
+        s->context_count = counts[i % 4];
         s->emitter = FIRST_MUTE + (i % 7u);
-        s->event = 0x00010001u;
+        s->event = CHANGED;
         s->object = (uint32_t)next();
         s->method = (uint32_t)next();
-        s->context = (uint32_t)next();
-        put32(parameters, s->emitter);
-        put32(parameters + 4, s->event);
-        put32(parameters + 8, s->object);
-        put32(parameters + 12, s->method);
-        put32(parameters + 16, s->context);
-        parameters[20] = 1;
-        size_t length = command(message, 7, 4, ADD, 5, parameters, sizeof parameters);
+        for (int k = 0; k < s->context_count; k++)
+            s->context[k] = (uint8_t)next();
+        size_t length = adding(parameters, s, s->context, s->context_count);
+        length = command(message, 7, SUBSCRIPTION_MANAGER, ADD, 5, parameters, length);
         deliver("a subscription", s->connection, message, length, MELORWYTH_MESSAGE, 20);
     }
 }
 
-/* A set marks the subscriptions to its mute; taking clears the lowest mark. */
+/* A set marks the subscriptions to its mute, with contexts of all four lengths; taking clears the lowest mark. */
 static void marks(void)
 {
     const uint8_t unmuted = 2;
@@ -197,13 +197,17 @@ static void marks(void)
     size_t length = command(message, 8, FIRST_MUTE + 2, SET, 1, &unmuted, 1);
     deliver("a set that marks", 5, message, length, MELORWYTH_MESSAGE, 20);
     for (uint8_t i = 2; i < MELORWYTH_SUBSCRIPTIONS; i += 7) {
+        melorwyth_subscription *s = &wanted.device.subscriptions[i];
+        uint8_t told[LEAST_NOTIFIED + TOO_LONG];
+        length = notified(told, s, s->context, s->context_count, unmuted);
         melorwyth_taken k = melorwyth_take(record, output, sizeof output);
         record = k.record;
         expect("taken", k.number, MELORWYTH_DONE);
         expect("a notification", k.kind, MELORWYTH_NOTIFICATION);
         expect("whose", k.connection, i % MELORWYTH_CONNECTIONS);
-        expect("its length", k.length, 41);
-        wanted.device.subscriptions[i].waiting = false;
+        expect("its length", k.length, length);
+        expect("its bytes", memcmp(output, told, length) == 0, 1);
+        s->waiting = false;
         same("take", &record, &wanted);
     }
 }
@@ -316,12 +320,19 @@ static void reset(void)
     same("a reset", &record, &wanted);
 }
 
-/* The reader's answers, each field with a number of its own. */
-static void reading(void)
+/* Of an entry of the message that is no notification, or refused. */
+static void no_context(const char *what, size_t length, size_t index)
 {
-    static const uint8_t told[31] = {0, 0, 0, 31, 1, 2, 3, 4, 5, 6, 7, 8, 2, 9, 10, 11, 12, 13, 14, 15, 16,
+    melorwyth_part p = melorwyth_entry_context(message, length, index);
+    expect(what, p.start, 0);
+    expect(what, p.length, 0);
+}
+
+/* The reader's answers on a notification, each field with a number of its own. */
+static void reading_notification(void)
+{
+    static const uint8_t told[33] = {0, 0, 0, 33, 1, 2, 3, 4, 5, 6, 7, 8, 2, 0, 4, 9, 10, 11, 12, 13, 14, 15, 16,
                                      17, 18, 19, 20, 21, 22, 23, 24, 25, 26};
-    static const uint8_t response[12] = {0, 0, 0, 12, 31, 32, 33, 34, 35, 36, 37, 38};
     size_t length = melorwyth_start(message, sizeof message, MELORWYTH_TYPE_NOTIFICATION, told, sizeof told).length;
     melorwyth_written w = melorwyth_append(message, sizeof message, MELORWYTH_TYPE_NOTIFICATION, told, sizeof told);
     expect("appended", w.number, MELORWYTH_DONE);
@@ -337,15 +348,37 @@ static void reading(void)
     expect("level", e.level, 0x0506);
     expect("index", e.index, 0x0708);
     expect("count", e.count, 2);
-    expect("context", e.context, 0x090A0B0C);
+    expect("context's count", e.context_count, 4);
     expect("emitter", e.emitter, 0x0D0E0F10);
     expect("event's level", e.event_level, 0x1112);
     expect("event's index", e.event_index, 0x1314);
     melorwyth_part p = melorwyth_entry_part(message, sizeof message, 1);
-    expect("start", p.start, 10 + 31 + 25);
+    expect("start", p.start, 10 + 33 + 27);
     expect("length", p.length, 6);
+    p = melorwyth_entry_context(message, sizeof message, 1);
+    expect("context's start", p.start, 10 + 33 + 15);
+    expect("context's length", p.length, 4);
+}
+
+/* Commands and responses, with zeros where a notification's count would stand. */
+static void without_context(void)
+{
+    static const uint8_t kinds[3] = {MELORWYTH_TYPE_COMMAND, MELORWYTH_TYPE_COMMAND_WANTING_REPLY,
+                                     MELORWYTH_TYPE_RESPONSE};
+    static const uint8_t entry[32] = {[3] = 32, [9] = 1, [16] = 1};
+    for (size_t k = 0; k < sizeof kinds; k++) {
+        melorwyth_written w = melorwyth_start(message, sizeof message, kinds[k], entry, sizeof entry);
+        expect("written", w.number, MELORWYTH_DONE);
+        expect("no context's count", melorwyth_read_entry(message, w.length, 0).context_count, 0);
+        no_context("no context", w.length, 0);
+    }
+}
+
+static void reading_response(void)
+{
+    static const uint8_t response[12] = {0, 0, 0, 12, 31, 32, 33, 34, 35, 36, 37, 38};
     melorwyth_start(message, sizeof message, MELORWYTH_TYPE_RESPONSE, response, sizeof response);
-    e = melorwyth_read_entry(message, sizeof message, 0);
+    melorwyth_entry e = melorwyth_read_entry(message, sizeof message, 0);
     expect("kind", e.kind, MELORWYTH_TYPE_RESPONSE);
     expect("handle", e.handle, 0x1F202122);
     expect("status", e.status, 35);
@@ -355,7 +388,7 @@ static void reading(void)
 /* One entry of that type, count and so many parameter bytes: started, read and delivered as it fits or not. */
 static void counted(uint8_t kind, uint8_t count, uint8_t bytes)
 {
-    static const uint8_t least[4] = {17, 17, 25, 10}, place[4] = {16, 16, 12, 9};
+    static const uint8_t least[4] = {17, 17, 23, 10}, place[4] = {16, 16, 12, 9};
     uint8_t none = kind == MELORWYTH_TYPE_NOTIFICATION;
     int fits = count >= none && (count == none) == (bytes == 0);
     uint8_t whole[40] = {0x3B, 0, 1, 0, 0, 0, (uint8_t)(9 + least[kind] + bytes), kind, 0, 1};
@@ -399,6 +432,8 @@ static void refusals(void)
     expect("level", e.level, 0x090A);
     expect("index", e.index, 0x0B0C);
     expect("count", e.count, 13);
+    no_context("no such context", length, 1);
+    no_context("a short message's context", length - 1, 0);
     expect("no such entry", melorwyth_read_entry(message, length, 1).number, MELORWYTH_NO_ENTRY);
     expect("no such part", melorwyth_entry_part(message, length, 1).start, 0);
     expect("short", melorwyth_read_message(message, length - 1).number, MELORWYTH_SHORT);
@@ -408,7 +443,9 @@ static void refusals(void)
     melorwyth_reading r = melorwyth_read_message(message, length);
     expect("form", r.form, MELORWYTH_MILLISECONDS);
     expect("value", r.value, 0x01020304);
+    no_context("a keep-alive's context", length, 0);
     message[7] = 5;
+    no_context("a faulty message's context", length, 0);
     r = melorwyth_read_message(message, length);
     expect("a fault", r.number, MELORWYTH_FAULT);
     expect("which", r.fault, MELORWYTH_FAULT_TYPE);
@@ -432,7 +469,9 @@ int main(void)
     supervision();
     closures();
     reset();
-    reading();
+    reading_notification();
+    reading_response();
+    without_context();
     counts();
     refusals();
     return verdict("fields");

@@ -21,6 +21,7 @@ static void record(void)
     FIELD("Subscription", melorwyth_subscription, used);
     FIELD("Subscription", melorwyth_subscription, waiting);
     FIELD("Subscription", melorwyth_subscription, connection);
+    FIELD("Subscription", melorwyth_subscription, context_count);
     FIELD("Subscription", melorwyth_subscription, emitter);
     FIELD("Subscription", melorwyth_subscription, event);
     FIELD("Subscription", melorwyth_subscription, object);
@@ -97,7 +98,7 @@ static void messages(void)
     FIELD("Entry", melorwyth_entry, index);
     FIELD("Entry", melorwyth_entry, count);
     FIELD("Entry", melorwyth_entry, status);
-    FIELD("Entry", melorwyth_entry, context);
+    FIELD("Entry", melorwyth_entry, context_count);
     FIELD("Entry", melorwyth_entry, emitter);
     FIELD("Entry", melorwyth_entry, event_level);
     FIELD("Entry", melorwyth_entry, event_index);

@@ -56,15 +56,36 @@
  *
  * WHO OWNS WHAT
  *
- * - The record is passed and handed back by value. Keep the one that the last
- *   call handed back and pass it to the next, unchanged. An older one is another
- *   history: do not go back to it.
+ * - The record is passed and handed back by value, 3,072 bytes each way. Keep the
+ *   one that the last call handed back and pass it to the next, unchanged. An older
+ *   one is another history: do not go back to it.
  * - The area goes with the record: one area for one record, the same one in
  *   every call, changed by nobody else in between.
  * - Pieces, entries and messages that are read are only read. Nothing is kept of
  *   any pointer after a call.
  * - An output or buffer keeps its bytes behind what was written.
  * - There is no lock inside. One record is one thread's at a time.
+ *
+ * SUBSCRIPTIONS
+ *
+ * A controller that wants to be told when a mute changes asks by method 3.1 of
+ * object 4. It names the mute, the event 1.1, an object and a method of its own,
+ * and a context: 0 to 64 bytes that mean nothing to the device and come back as
+ * they were given, in every notification. The parameter count is 5, and the
+ * parameters have 21 bytes and the context's, in this order and so many each:
+ *
+ *     emitter 4, event 4, the subscriber's object 4 and method 4,
+ *     the context's count 2, the context, mode 1, and two zeros
+ *
+ * Deliveries answer it and takes write the notifications, each of 39 bytes and the
+ * context's: the calls above are all that it needs. Its status is the first of
+ * these that applies: 4 for another parameter count, a length other than 21 plus
+ * the context's count, or a last pair other than 0, 0; 6 if the emitter is no mute
+ * or the event not 1.1; 7 for a mode other than 1 or a context above 64 bytes; 9 if
+ * the connection has that subscription already; 10 if all 32 entries are used; else
+ * 0. A connection's subscriptions are told apart by emitter, event and subscriber,
+ * not by the context: for another context a controller removes the subscription
+ * (3.2, which names none) and adds it anew.
  *
  * RESET BY KEY
  *
@@ -110,8 +131,8 @@
  * - let two buffers of one call overlap;
  * - put anything but 0 or 1 into a bool of the record;
  * - pass one record and area to two calls at the same time;
- * - call with less than about 16 KB of stack: records pass by value, and the
- *   deepest call, melorwyth_take, takes 10 KB (docs/BENCHMARKS.md).
+ * - call with less than about 32 KB of stack: records pass by value, and the
+ *   deepest call, melorwyth_take, takes 26 KB (docs/BENCHMARKS.md).
  *
  * A record that was changed between calls is not in this list: if it breaks a
  * record rule it is refused by 1, and if it keeps them it is simply another state.
@@ -135,6 +156,8 @@ extern "C" {
 #define MELORWYTH_CONNECTIONS 8
 #define MELORWYTH_SUBSCRIPTIONS 32
 #define MELORWYTH_MUTES 8
+/* The longest context of a subscriber. */
+#define MELORWYTH_CONTEXT 64
 /* The area: exactly so long. Connection n's undecided bytes stand at 2,049 n, zeros after them. */
 #define MELORWYTH_AREA 16392
 /* The output of deliver and take: at least so long. */
@@ -174,7 +197,8 @@ extern "C" {
 /* Writer: no well formed entry, or not of the message's type, or appended to a keep-alive;
    or a keep-alive of no known form, or in seconds with a value above 65,535.
    An entry without parameters has count 0, in a notification 1, and no parameter byte;
-   with a higher count it has at least one. */
+   with a higher count it has at least one. A notification's context has at most 64 bytes,
+   and stands within its entry. */
 #define MELORWYTH_BAD_ENTRY 11
 /* Reader: the entry's number is not below the message's count, or it is a keep-alive. */
 #define MELORWYTH_NO_ENTRY 12
@@ -191,8 +215,8 @@ extern "C" {
 #define MELORWYTH_FAULT_TYPE 4
 /* messageCount is 0, or not 1 for a keep-alive. */
 #define MELORWYTH_FAULT_COUNT 5
-/* The entries do not fill the data, one is not well formed (a count without bytes is not: see 11),
-   or a keep-alive has other than 2 or 4 bytes. */
+/* The entries do not fill the data, one is not well formed (a count without bytes is not, nor a context
+   above 64 bytes or past its entry: see 11), or a keep-alive has other than 2 or 4 bytes. */
 #define MELORWYTH_FAULT_DATA 6
 
 /* ---- types of messages and entries --------------------------------------- */
@@ -202,6 +226,12 @@ extern "C" {
 #define MELORWYTH_TYPE_NOTIFICATION 2
 #define MELORWYTH_TYPE_RESPONSE 3
 #define MELORWYTH_TYPE_KEEP_ALIVE 4
+
+/* An entry's bytes, in order. The size counts itself; a method or event is its level in 2 bytes and its index in 2.
+   command       size 4, handle 4, target 4, method 4, parameter count 1, parameters
+   notification  size 4, target 4, method 4, parameter count 1, context's count 2, context, emitter 4, event 4,
+                 event parameters
+   response      size 4, handle 4, status 1, parameter count 1, parameters */
 
 /* The forms of a keep-alive. */
 #define MELORWYTH_SECONDS 1
@@ -222,14 +252,15 @@ typedef struct melorwyth_connection {
 } melorwyth_connection;
 
 typedef struct melorwyth_subscription {
-    bool used;           /* a free entry is all 0 */
-    bool waiting;        /* whether a notification is to be taken for it */
-    uint8_t connection;  /* whose it is */
-    uint32_t emitter;    /* the mute, 4097 to 4104 */
-    uint32_t event;      /* level times 65,536 plus index: always 1.1 */
-    uint32_t object;     /* the subscriber's object */
-    uint32_t method;     /* the subscriber's method: level times 65,536 plus index */
-    uint32_t context;    /* sent with each notification, most significant byte first */
+    bool used;              /* a free entry is all 0 */
+    bool waiting;           /* whether a notification is to be taken for it */
+    uint8_t connection;     /* whose it is */
+    uint8_t context_count;  /* how many bytes its context has, 0 to 64 */
+    uint32_t emitter;       /* the mute, 4097 to 4104 */
+    uint32_t event;         /* level times 65,536 plus index: always 1.1 */
+    uint32_t object;        /* the subscriber's object */
+    uint32_t method;        /* the subscriber's method: level times 65,536 plus index */
+    uint8_t context[MELORWYTH_CONTEXT];  /* sent with each notification: context_count bytes, and zeros behind them */
 } melorwyth_subscription;
 
 /* Disarmed it is all 0. */
@@ -324,22 +355,23 @@ typedef struct melorwyth_reading {
 
 /* Fields that an entry of that kind does not have are 0. */
 typedef struct melorwyth_entry {
-    uint8_t number;        /* 0, 8, 9 or 12 */
-    uint8_t fault;         /* refusal 8: which fault */
-    uint8_t kind;          /* 0 a command of type 0 or 1, 2 a notification, 3 a response */
-    uint32_t handle;       /* command, response */
-    uint32_t target;       /* command, notification */
-    uint16_t level;        /* the method's level: command, notification */
-    uint16_t index;        /* the method's index */
-    uint8_t count;         /* the parameter count: 0, in a notification 1, exactly where the part is empty */
-    uint8_t status;        /* response */
-    uint32_t context;      /* notification, as are the fields below */
+    uint8_t number;          /* 0, 8, 9 or 12 */
+    uint8_t fault;           /* refusal 8: which fault */
+    uint8_t kind;            /* 0 a command of type 0 or 1, 2 a notification, 3 a response */
+    uint32_t handle;         /* command, response */
+    uint32_t target;         /* command, notification */
+    uint16_t level;          /* the method's level: command, notification */
+    uint16_t index;          /* the method's index */
+    uint8_t count;           /* the parameter count: 0, in a notification 1, exactly where the part is empty */
+    uint8_t status;          /* response */
+    uint16_t context_count;  /* how many bytes the context has, 0 to 64: notification, as are the fields below */
     uint32_t emitter;
     uint16_t event_level;
     uint16_t event_index;
 } melorwyth_entry;
 
-/* The length bytes from bytes + start on; both 0 where the entry is refused. */
+/* The length bytes from bytes + start on; where there are none, start is where they would stand.
+   Both are 0 where the entry is refused, and for the context of an entry that is no notification. */
 typedef struct melorwyth_part {
     size_t start;
     size_t length;
@@ -399,6 +431,9 @@ melorwyth_entry melorwyth_read_entry(const uint8_t *bytes, size_t bytes_length, 
 /* Where that entry's parameters stand in the bytes (a notification's event parameters). */
 melorwyth_part melorwyth_entry_part(const uint8_t *bytes, size_t bytes_length, size_t index);
 
+/* Where that entry's context stands in the bytes, behind its 2-byte count: only a notification has one. */
+melorwyth_part melorwyth_entry_context(const uint8_t *bytes, size_t bytes_length, size_t index);
+
 /* ---- the writer: for whole messages, with no record ---------------------------- */
 
 /* Starts a message of that type with one entry, given as its bytes, its size field included. */
@@ -414,10 +449,11 @@ melorwyth_written melorwyth_keep_alive(uint8_t *buffer, size_t buffer_length, ui
 
 /* ---- the archive's layout: a compiler that lays the record out in another way stops here -------- */
 
+typedef char melorwyth_subscription_has_84_bytes[sizeof(melorwyth_subscription) == 84 ? 1 : -1];
 typedef char melorwyth_mechanism_has_24_bytes[sizeof(melorwyth_mechanism) == 24 ? 1 : -1];
-typedef char melorwyth_record_has_1152_bytes[sizeof(melorwyth_record) == 1152 ? 1 : -1];
-typedef char melorwyth_delivered_has_1176_bytes[sizeof(melorwyth_delivered) == 1176 ? 1 : -1];
-typedef char melorwyth_reset_has_1160_bytes[sizeof(melorwyth_reset) == 1160 ? 1 : -1];
+typedef char melorwyth_record_has_3072_bytes[sizeof(melorwyth_record) == 3072 ? 1 : -1];
+typedef char melorwyth_delivered_has_3096_bytes[sizeof(melorwyth_delivered) == 3096 ? 1 : -1];
+typedef char melorwyth_reset_has_3080_bytes[sizeof(melorwyth_reset) == 3080 ? 1 : -1];
 
 #ifdef __cplusplus
 }
