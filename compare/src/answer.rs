@@ -106,7 +106,7 @@ pub struct Entry {
     pub index: u16,
     pub count: u8,
     pub status: u8,
-    pub context: u32,
+    pub context_count: u16,
     pub emitter: u32,
     pub event_level: u16,
     pub event_index: u16,

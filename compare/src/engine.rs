@@ -25,6 +25,7 @@ pub trait Engine {
     fn read_message(&self, bytes: &[u8]) -> Reading;
     fn read_entry(&self, bytes: &[u8], index: usize) -> Entry;
     fn entry_part(&self, bytes: &[u8], index: usize) -> Part;
+    fn entry_context(&self, bytes: &[u8], index: usize) -> Part;
     fn start(&self, buffer: &mut [u8], kind: u8, entry: &[u8]) -> Written;
     fn append(&self, buffer: &mut [u8], kind: u8, entry: &[u8]) -> Written;
     fn keep_alive(&self, buffer: &mut [u8], form: u8, value: u32) -> Written;

@@ -8,7 +8,7 @@ use crate::answer::{
     Ticked, Written,
 };
 use crate::engine::Engine;
-use crate::record::{AREA, Connection, Device, Mechanism, Record, SHARE, Subscription};
+use crate::record::{AREA, CONTEXT, Connection, Device, Mechanism, Record, SHARE, Subscription};
 use crate::second::Second;
 
 const EVENT: u32 = 0x0001_0001;
@@ -341,13 +341,18 @@ fn set(device: &mut Device, mute: usize, others: bool, value: u8) -> u8 {
 }
 
 fn add(device: &mut Device, n: usize, count: u8, parameters: &[u8]) -> u8 {
-    if count != 5 || parameters.len() != 23 || parameters[21] != 0 || parameters[22] != 0 {
+    let length = parameters.len();
+    if count != 5 || length < 21 || usize::from(half(parameters, 16)) != length - 21 {
+        return 4;
+    }
+    let (context, rest) = parameters[18..].split_at(length - 21);
+    if rest[1] != 0 || rest[2] != 0 {
         return 4;
     }
     if !is_mute(word(parameters, 0)) || word(parameters, 4) != EVENT {
         return 6;
     }
-    if parameters[20] != 1 {
+    if rest[0] != 1 || context.len() > CONTEXT {
         return 7;
     }
     if find(device, n, parameters).is_some() {
@@ -356,16 +361,16 @@ fn add(device: &mut Device, n: usize, count: u8, parameters: &[u8]) -> u8 {
     let Some(free) = device.subscriptions.iter().position(|entry| !entry.used) else {
         return 10;
     };
-    device.subscriptions[free] = Subscription {
-        used: true,
-        waiting: false,
-        connection: n as u8,
-        emitter: word(parameters, 0),
-        event: EVENT,
-        object: word(parameters, 8),
-        method: word(parameters, 12),
-        context: word(parameters, 16),
-    };
+    // What a free entry holds is zero already.
+    let entry = &mut device.subscriptions[free];
+    entry.used = true;
+    entry.connection = n as u8;
+    entry.context_count = context.len() as u8;
+    entry.emitter = word(parameters, 0);
+    entry.event = EVENT;
+    entry.object = word(parameters, 8);
+    entry.method = word(parameters, 12);
+    entry.context[..context.len()].copy_from_slice(context);
     0
 }
 
@@ -482,7 +487,7 @@ fn front_fault(front: &[u8; FRONT]) -> u8 {
 fn entries_are_sound(kind: u8, count: u16, data: &[u8]) -> bool {
     // The least entry, the place of its count, and the count that means bare.
     let (least, place, bare) = match kind {
-        2 => (25, 12, 1),
+        2 => (23, 12, 1),
         3 => (10, 9, 0),
         _ => (17, 16, 0),
     };
@@ -495,8 +500,15 @@ fn entries_are_sound(kind: u8, count: u16, data: &[u8]) -> bool {
         if size < least || size > rest.len() {
             return false;
         }
+        let context = match kind {
+            2 => usize::from(half(rest, 13)),
+            _ => 0,
+        };
+        if context > CONTEXT || size < least + context {
+            return false;
+        }
         let given = rest[place];
-        if given < bare || (given == bare) != (size == least) {
+        if given < bare || (given == bare) != (size == least + context) {
             return false;
         }
         rest = &rest[size..];
@@ -561,12 +573,15 @@ const OPENED: Connection = Connection {
 fn subscriptions_are_good(entries: &[Subscription; 32], open: impl Fn(u8) -> bool) -> bool {
     for (at, entry) in entries.iter().enumerate() {
         if !entry.used {
-            if *entry != Subscription::default() {
+            if !is_free(entry) {
                 return false;
             }
             continue;
         }
         if !open(entry.connection) || !is_mute(entry.emitter) || entry.event != EVENT {
+            return false;
+        }
+        if !context_is_good(entry) {
             return false;
         }
         // A free entry's object 0 and method 0 are told apart by its emitter.
@@ -581,6 +596,33 @@ fn subscriptions_are_good(entries: &[Subscription; 32], open: impl Fn(u8) -> boo
         }
     }
     true
+}
+
+fn is_free(entry: &Subscription) -> bool {
+    let numbers = entry.emitter | entry.event | entry.object | entry.method;
+    let small = u8::from(entry.waiting) | entry.connection | entry.context_count;
+    u64::from(numbers | u32::from(small)) | joined(entry.context.as_chunks().0) == 0
+}
+
+/// A count of at most 64, and zeros past it.
+fn context_is_good(entry: &Subscription) -> bool {
+    let count = usize::from(entry.context_count);
+    if count > CONTEXT {
+        return false;
+    }
+    match &entry.context.as_chunks().0[count / 8..] {
+        // The word that the count cuts loses its bytes before the cut.
+        [cut, rest @ ..] => u64::from_le_bytes(*cut) >> (8 * (count % 8)) | joined(rest) == 0,
+        [] => true,
+    }
+}
+
+/// Zero exactly if all bytes are; eight of them are looked at together.
+#[inline]
+fn joined(words: &[[u8; 8]]) -> u64 {
+    words
+        .iter()
+        .fold(0, |all, word| all | u64::from_ne_bytes(*word))
 }
 
 fn area_is_good(record: &Record, area: &[u8]) -> bool {
@@ -673,6 +715,10 @@ impl Engine for Fast {
 
     fn entry_part(&self, bytes: &[u8], index: usize) -> Part {
         Second.entry_part(bytes, index)
+    }
+
+    fn entry_context(&self, bytes: &[u8], index: usize) -> Part {
+        Second.entry_context(bytes, index)
     }
 
     fn start(&self, buffer: &mut [u8], kind: u8, entry: &[u8]) -> Written {

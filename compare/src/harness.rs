@@ -2,6 +2,7 @@
 
 pub mod call;
 pub mod codec;
+pub mod context_counts;
 pub mod counts;
 pub mod damage;
 pub mod desk;
@@ -12,6 +13,7 @@ pub mod random;
 pub mod reset;
 pub mod reset_counts;
 pub mod session;
+pub mod told;
 pub mod traffic;
 pub mod verdict;
 pub mod walk;

@@ -33,6 +33,7 @@ unsafe extern "C" {
     fn melorwyth_read_message(bytes: *const u8, bytes_len: usize) -> Reading;
     fn melorwyth_read_entry(bytes: *const u8, bytes_len: usize, index: usize) -> Entry;
     fn melorwyth_entry_part(bytes: *const u8, bytes_len: usize, index: usize) -> Part;
+    fn melorwyth_entry_context(bytes: *const u8, bytes_len: usize, index: usize) -> Part;
     fn melorwyth_start(
         buffer: *mut u8,
         buffer_len: usize,
@@ -126,6 +127,10 @@ impl Engine for Ours {
 
     fn entry_part(&self, bytes: &[u8], index: usize) -> Part {
         unsafe { melorwyth_entry_part(bytes.as_ptr(), bytes.len(), index) }
+    }
+
+    fn entry_context(&self, bytes: &[u8], index: usize) -> Part {
+        unsafe { melorwyth_entry_context(bytes.as_ptr(), bytes.len(), index) }
     }
 
     fn start(&self, buffer: &mut [u8], kind: u8, entry: &[u8]) -> Written {

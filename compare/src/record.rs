@@ -6,6 +6,8 @@ pub const CONNECTIONS: usize = 8;
 pub const SUBSCRIPTIONS: usize = 32;
 /// How many mutes there are.
 pub const MUTES: usize = 8;
+/// How many bytes a context has at most.
+pub const CONTEXT: usize = 64;
 /// How many bytes of the area belong to one connection.
 pub const SHARE: usize = 2_049;
 /// How many bytes the lent area has.
@@ -31,11 +33,13 @@ pub struct Connection {
 
 /// One subscription entry.
 #[repr(C)]
-#[derive(Clone, Copy, Debug, Default, PartialEq, Eq)]
+#[derive(Clone, Copy, Debug, PartialEq, Eq)]
 pub struct Subscription {
     pub used: bool,
     pub waiting: bool,
     pub connection: u8,
+    /// How many bytes the context has.
+    pub context_count: u8,
     pub emitter: u32,
     /// Level times 65,536 plus index.
     pub event: u32,
@@ -43,7 +47,25 @@ pub struct Subscription {
     pub object: u32,
     /// The subscriber's method: level times 65,536 plus index.
     pub method: u32,
-    pub context: u32,
+    /// As many bytes as the count says, then zeros.
+    pub context: [u8; CONTEXT],
+}
+
+// The context is too long for it to be derived.
+impl Default for Subscription {
+    fn default() -> Subscription {
+        Subscription {
+            used: false,
+            waiting: false,
+            connection: 0,
+            context_count: 0,
+            emitter: 0,
+            event: 0,
+            object: 0,
+            method: 0,
+            context: [0; CONTEXT],
+        }
+    }
 }
 
 /// Reset by key, as method 3.14 arms it; all zero while disarmed.

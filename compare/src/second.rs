@@ -20,6 +20,7 @@ use crate::answer::{
 use crate::engine::Engine;
 use crate::record::Record;
 use endpoint::{Delivery, Taking};
+use std::ops::Range;
 use wire::Heartbeat;
 
 /// Why a call is refused; the numbers are the scope paper's, of which 7 is given up.
@@ -187,13 +188,11 @@ impl Engine for Second {
     }
 
     fn entry_part(&self, bytes: &[u8], index: usize) -> Part {
-        match reader::entry_part(bytes, index) {
-            Some(part) => Part {
-                start: part.start,
-                length: part.len(),
-            },
-            None => Part::default(),
-        }
+        part(reader::entry_part(bytes, index))
+    }
+
+    fn entry_context(&self, bytes: &[u8], index: usize) -> Part {
+        part(reader::entry_context(bytes, index))
     }
 
     fn start(&self, buffer: &mut [u8], kind: u8, entry: &[u8]) -> Written {
@@ -274,7 +273,7 @@ fn entry(found: &reader::Entry) -> Entry {
             level: notification.level,
             index: notification.index,
             count: notification.count,
-            context: notification.context,
+            context_count: notification.context_count,
             emitter: notification.emitter,
             event_level: notification.event_level,
             event_index: notification.event_index,
@@ -287,6 +286,16 @@ fn entry(found: &reader::Entry) -> Entry {
             count: response.count,
             ..Entry::default()
         },
+    }
+}
+
+fn part(place: Option<Range<usize>>) -> Part {
+    match place {
+        Some(place) => Part {
+            start: place.start,
+            length: place.len(),
+        },
+        None => Part::default(),
     }
 }
 

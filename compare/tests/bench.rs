@@ -3,7 +3,7 @@
 
 use compare::answer::{CLOSED, KEEP_ALIVE, MESSAGE, MORE, NOTIFICATION};
 use compare::engine::Engine;
-use compare::record::{AREA, Mechanism, Record};
+use compare::record::{AREA, Mechanism, Record, Subscription};
 use compare::second::device::class_bytes;
 use compare::second::listing::list;
 use compare::second::wire;
@@ -15,8 +15,8 @@ const LOCK: &str = "3B 00 01 00 00 00 1A 01 00 01 00 00 00 11 00 00 00 07 \
                     00 00 10 01 00 01 00 03 00";
 const LOCKED: &str = "3B 00 01 00 00 00 13 03 00 01 00 00 00 0A 00 00 00 07 00 00";
 const REFUSED: &str = "3B 00 01 00 00 00 13 03 00 01 00 00 00 0A 00 00 00 07 03 00";
-const MUTED: &str = "3B 00 01 00 00 00 28 02 00 01 00 00 00 1F 00 00 00 09 00 03 00 01 02 \
-                     01 02 03 04 00 00 10 01 00 01 00 01 00 04 00 01 01 01";
+const MUTED: &str = "3B 00 01 00 00 00 2A 02 00 01 00 00 00 21 00 00 00 09 00 03 00 01 02 \
+                     00 04 01 02 03 04 00 00 10 01 00 01 00 01 00 04 00 01 01 01";
 
 fn hex(text: &str) -> Vec<u8> {
     text.split_whitespace()
@@ -37,9 +37,10 @@ fn command(handle: u32, target: u32, method: (u16, u16), count: u8, rest: &[u8])
 }
 
 /// The parameters of an add of event 1.1, mode 1.
-fn adding(emitter: u32, object: u32, context: u32) -> Vec<u8> {
+fn adding(emitter: u32, object: u32, context: &[u8]) -> Vec<u8> {
     let mut bytes = naming(emitter, object);
-    bytes.extend(context.to_be_bytes());
+    bytes.extend((context.len() as u16).to_be_bytes());
+    bytes.extend(context);
     bytes.extend([1, 0, 0]);
     bytes
 }
@@ -170,7 +171,7 @@ fn the_reply_leaves_the_rest_of_the_output() {
 #[test]
 fn a_mute_notifies_its_subscriber() {
     let mut bench = Bench::open(1);
-    let add = adding(4_097, 9, 0x0102_0304);
+    let add = adding(4_097, 9, &[1, 2, 3, 4]);
     assert_eq!(bench.status(0, 4, (3, 1), 5, &add), 0);
     assert_eq!(bench.take(), (0, 0, vec![]));
     assert_eq!(bench.status(0, 4_097, (4, 2), 1, &[1]), 0);
@@ -327,7 +328,7 @@ fn notifications_come_by_entry_and_before_keep_alives() {
     let mut bench = Bench::open(3);
     bench.send(0, &hex(TWO_SECONDS));
     for (n, emitter, object) in [(2, 4_098, 5), (1, 4_097, 6), (0, 4_098, 7)] {
-        let add = adding(emitter, object, object);
+        let add = adding(emitter, object, &vec![1; object as usize]);
         assert_eq!(bench.status(n, 4, (3, 1), 5, &add), 0);
     }
     bench.tick(2_000);
@@ -340,7 +341,7 @@ fn notifications_come_by_entry_and_before_keep_alives() {
         if kind == 0 {
             break;
         }
-        seen.push((kind, connection, message.get(39).copied()));
+        seen.push((kind, connection, message.iter().rev().nth(1).copied()));
     }
     // The last entry's notification speaks on connection 0 and clears its due.
     let expected = [
@@ -354,7 +355,7 @@ fn notifications_come_by_entry_and_before_keep_alives() {
 #[test]
 fn a_set_to_the_present_value_marks_nothing() {
     let mut bench = Bench::open(1);
-    let add = adding(4_097, 9, 0);
+    let add = adding(4_097, 9, &[]);
     assert_eq!(bench.status(0, 4, (3, 1), 5, &add), 0);
     assert_eq!(bench.status(0, 4_097, (4, 2), 1, &[2]), 0);
     assert_eq!(bench.take().0, 0);
@@ -363,9 +364,13 @@ fn a_set_to_the_present_value_marks_nothing() {
 #[test]
 fn a_twin_is_refused_whatever_its_context() {
     let mut bench = Bench::open(2);
-    assert_eq!(bench.status(0, 4, (3, 1), 5, &adding(4_097, 9, 1)), 0);
-    assert_eq!(bench.status(0, 4, (3, 1), 5, &adding(4_097, 9, 2)), 9);
-    assert_eq!(bench.status(1, 4, (3, 1), 5, &adding(4_097, 9, 1)), 0);
+    assert_eq!(bench.status(0, 4, (3, 1), 5, &adding(4_097, 9, &[1])), 0);
+    let entry = bench.record.device.subscriptions[0];
+    for context in [&[1][..], &[2], &[], &[1; 64]] {
+        assert_eq!(bench.status(0, 4, (3, 1), 5, &adding(4_097, 9, context)), 9);
+        assert_eq!(bench.record.device.subscriptions[0], entry);
+    }
+    assert_eq!(bench.status(1, 4, (3, 1), 5, &adding(4_097, 9, &[1])), 0);
     assert_eq!(bench.status(0, 4, (3, 2), 2, &naming(4_097, 8)), 9);
     assert_eq!(bench.status(0, 4, (3, 2), 2, &naming(4_097, 9)), 0);
     assert_eq!(bench.status(0, 4, (3, 2), 2, &naming(4_097, 9)), 9);
@@ -378,12 +383,19 @@ fn a_twin_is_refused_whatever_its_context() {
 fn the_33rd_subscription_finds_no_entry() {
     let mut bench = Bench::open(1);
     for object in 0..32 {
-        assert_eq!(bench.status(0, 4, (3, 1), 5, &adding(4_097, object, 0)), 0);
+        assert_eq!(
+            bench.status(0, 4, (3, 1), 5, &adding(4_097, object, &[])),
+            0
+        );
     }
-    assert_eq!(bench.status(0, 4, (3, 1), 5, &adding(4_097, 32, 0)), 10);
-    assert_eq!(bench.status(0, 4, (3, 1), 5, &adding(4_097, 31, 0)), 9);
+    assert_eq!(bench.status(0, 4, (3, 1), 5, &adding(4_097, 32, &[])), 10);
+    assert_eq!(bench.status(0, 4, (3, 1), 5, &adding(4_097, 31, &[])), 9);
+    assert_eq!(
+        bench.status(0, 4, (3, 1), 5, &adding(4_097, 32, &[0; 65])),
+        7
+    );
     assert_eq!(bench.status(0, 4, (3, 2), 2, &naming(4_097, 11)), 0);
-    assert_eq!(bench.status(0, 4, (3, 1), 5, &adding(4_097, 32, 0)), 0);
+    assert_eq!(bench.status(0, 4, (3, 1), 5, &adding(4_097, 32, &[])), 0);
     assert_eq!(bench.record.device.subscriptions[11].object, 32);
 }
 
@@ -411,10 +423,10 @@ fn statuses_come_in_their_order() {
     assert_eq!(bench.status(0, 4_097, (4, 2), 1, &[1, 1]), 4);
     assert_eq!(bench.status(0, 4_097, (4, 2), 2, &[1]), 4);
     assert_eq!(bench.status(0, 4_097, (4, 2), 1, &[3]), 7);
-    let mut pair = adding(1, 9, 0);
+    let mut pair = adding(1, 9, &[7, 7]);
     pair[22] = 1;
     assert_eq!(bench.status(0, 4, (3, 1), 5, &pair), 4);
-    let mut mode = adding(4_097, 9, 0);
+    let mut mode = adding(4_097, 9, &[7, 7]);
     mode[20] = 2;
     assert_eq!(bench.status(0, 4, (3, 1), 5, &mode), 7);
     mode[7] = 2;
@@ -526,17 +538,24 @@ fn entries_are_read_with_their_parts() {
     let entry = Second.read_entry(&muted, 0);
     assert_eq!((entry.number, entry.kind, entry.count), (0, 2, 2));
     assert_eq!((entry.target, entry.level, entry.index), (9, 3, 1));
-    assert_eq!((entry.context, entry.emitter), (0x0102_0304, 4_097));
+    assert_eq!((entry.context_count, entry.emitter), (4, 4_097));
     assert_eq!((entry.event_level, entry.event_index), (1, 1));
     let part = Second.entry_part(&muted, 0);
-    assert_eq!((part.start, part.length), (35, 6));
+    assert_eq!((part.start, part.length), (37, 6));
+    let context = Second.entry_context(&muted, 0);
+    assert_eq!((context.start, context.length), (25, 4));
     assert_eq!(Second.read_entry(&muted, 1).number, 12);
-    assert_eq!(Second.entry_part(&muted, 1), Default::default());
     assert_eq!(Second.read_entry(&hex(TWO_SECONDS), 0).number, 12);
-    assert_eq!(Second.read_entry(&muted[..40], 0).number, 9);
-    assert_eq!(Second.entry_part(&muted[..40], 0), Default::default());
+    assert_eq!(Second.read_entry(&muted[..42], 0).number, 9);
+    for (bytes, index) in [(&muted[..], 1), (&muted[..42], 0), (&hex(TWO_SECONDS), 0)] {
+        assert_eq!(Second.entry_part(bytes, index), Default::default());
+        assert_eq!(Second.entry_context(bytes, index), Default::default());
+    }
     let refused = Second.read_entry(&hex(REFUSED), 0);
     assert_eq!((refused.kind, refused.handle, refused.status), (3, 7, 3));
+    assert_eq!(refused.context_count, 0);
+    assert_eq!(Second.entry_part(&hex(REFUSED), 0).start, 20);
+    assert_eq!(Second.entry_context(&hex(REFUSED), 0), Default::default());
 }
 
 #[test]
@@ -579,24 +598,24 @@ const COUNTED: [(&str, &str); 8] = [
     ),
     // Notification: count 1, and count 2 without a byte.
     (
-        "3B 00 01 00 00 00 22 02 00 01 00 00 00 19 00 00 00 09 00 03 00 01 01 \
-         01 02 03 04 00 00 10 01 00 01 00 01",
-        "3B 00 01 00 00 00 22 02 00 01 00 00 00 19 00 00 00 09 00 03 00 01 02 \
-         01 02 03 04 00 00 10 01 00 01 00 01",
+        "3B 00 01 00 00 00 24 02 00 01 00 00 00 1B 00 00 00 09 00 03 00 01 01 \
+         00 04 01 02 03 04 00 00 10 01 00 01 00 01",
+        "3B 00 01 00 00 00 24 02 00 01 00 00 00 1B 00 00 00 09 00 03 00 01 02 \
+         00 04 01 02 03 04 00 00 10 01 00 01 00 01",
     ),
     // Notification: count 2 with a byte, and count 1 with one.
     (
-        "3B 00 01 00 00 00 23 02 00 01 00 00 00 1A 00 00 00 09 00 03 00 01 02 \
-         01 02 03 04 00 00 10 01 00 01 00 01 00",
-        "3B 00 01 00 00 00 23 02 00 01 00 00 00 1A 00 00 00 09 00 03 00 01 01 \
-         01 02 03 04 00 00 10 01 00 01 00 01 00",
+        "3B 00 01 00 00 00 25 02 00 01 00 00 00 1C 00 00 00 09 00 03 00 01 02 \
+         00 04 01 02 03 04 00 00 10 01 00 01 00 01 00",
+        "3B 00 01 00 00 00 25 02 00 01 00 00 00 1C 00 00 00 09 00 03 00 01 01 \
+         00 04 01 02 03 04 00 00 10 01 00 01 00 01 00",
     ),
     // Notification: count 255 with a byte, and without.
     (
-        "3B 00 01 00 00 00 23 02 00 01 00 00 00 1A 00 00 00 09 00 03 00 01 FF \
-         01 02 03 04 00 00 10 01 00 01 00 01 00",
-        "3B 00 01 00 00 00 22 02 00 01 00 00 00 19 00 00 00 09 00 03 00 01 FF \
-         01 02 03 04 00 00 10 01 00 01 00 01",
+        "3B 00 01 00 00 00 25 02 00 01 00 00 00 1C 00 00 00 09 00 03 00 01 FF \
+         00 04 01 02 03 04 00 00 10 01 00 01 00 01 00",
+        "3B 00 01 00 00 00 24 02 00 01 00 00 00 1B 00 00 00 09 00 03 00 01 FF \
+         00 04 01 02 03 04 00 00 10 01 00 01 00 01",
     ),
 ];
 
@@ -677,6 +696,215 @@ fn a_wrong_count_with_bytes_is_a_status() {
     assert_eq!(bench.send(0, &hex(asked)), reply);
 }
 
+/// A notification of event 1.1 to object 9, method 3.1, with any context count.
+fn notifying(count: u8, stated: u16, context: &[u8], rest: &[u8]) -> Vec<u8> {
+    let mut bytes = (23 + (context.len() + rest.len()) as u32)
+        .to_be_bytes()
+        .to_vec();
+    bytes.extend([0, 0, 0, 9, 0, 3, 0, 1, count]);
+    bytes.extend(stated.to_be_bytes());
+    bytes.extend(context);
+    bytes.extend([0, 0, 0x10, 1, 0, 1, 0, 1]);
+    bytes.extend(rest);
+    bytes
+}
+
+#[test]
+fn a_context_of_every_length_is_kept_sent_and_read() {
+    for length in 0..=64 {
+        let context: Vec<u8> = (1..=length).collect();
+        let mut bench = Bench::open(1);
+        assert_eq!(
+            bench.status(0, 4, (3, 1), 5, &adding(4_097, 9, &context)),
+            0
+        );
+        let entry = bench.record.device.subscriptions[0];
+        let (kept, past) = entry.context.split_at(context.len());
+        assert_eq!((entry.context_count, kept), (length, &context[..]));
+        assert!(past.iter().all(|byte| *byte == 0));
+        assert_eq!(bench.status(0, 4_097, (4, 2), 1, &[1]), 0);
+        let rest = [0, 4, 0, 1, 1, 1];
+        let sent = wire::message(2, &[notifying(2, length.into(), &context, &rest)]);
+        assert_eq!(bench.take(), (NOTIFICATION, 0, sent.clone()));
+        let entry = Second.read_entry(&sent, 0);
+        assert_eq!((entry.number, entry.context_count), (0, length.into()));
+        assert_eq!((entry.emitter, entry.event_level), (4_097, 1));
+        let context = Second.entry_context(&sent, 0);
+        assert_eq!((context.start, context.length), (25, length.into()));
+        let part = Second.entry_part(&sent, 0);
+        assert_eq!((part.start, part.length), (33 + usize::from(length), 6));
+    }
+}
+
+#[test]
+fn a_shorter_context_leaves_nothing_of_a_longer_one() {
+    let mut bench = Bench::open(1);
+    for context in [&[9; 64][..], &[8; 5], &[]] {
+        assert_eq!(bench.status(0, 4, (3, 1), 5, &adding(4_097, 9, context)), 0);
+        let entry = bench.record.device.subscriptions[0];
+        assert!(entry.context.starts_with(context));
+        assert!(entry.context[context.len()..].iter().all(|byte| *byte == 0));
+        assert_eq!(bench.status(0, 4, (3, 2), 2, &naming(4_097, 9)), 0);
+        assert_eq!(bench.record.device.subscriptions[0], Default::default());
+    }
+}
+
+#[test]
+fn statuses_of_an_add_come_in_their_order() {
+    let mut bench = Bench::open(1);
+    let with = |edit: &dyn Fn(&mut Vec<u8>), mut bytes: Vec<u8>| {
+        edit(&mut bytes);
+        bytes
+    };
+    for length in [0, 1, 64, 65, 255, 256, 2_001] {
+        let right = adding(4_097, 9, &vec![7; length]);
+        assert_eq!(right.len(), 21 + length);
+        let long = length > 64;
+        let stranger = adding(4_105, 9, &vec![7; length]);
+        let mode = with(&|bytes| bytes[18 + length] = 2, right.clone());
+        for (count, bytes, status) in [
+            (4, &stranger, 4),
+            (6, &stranger, 4),
+            (
+                5,
+                &with(&|bytes| bytes[19 + length] = 1, stranger.clone()),
+                4,
+            ),
+            (5, &with(&|bytes| bytes[20 + length] = 1, mode.clone()), 4),
+            (5, &with(&|bytes| bytes[17] ^= 1, stranger.clone()), 4),
+            (5, &with(&|bytes| bytes[16] ^= 1, mode.clone()), 4),
+            (
+                5,
+                &with(&|bytes| bytes.truncate(20 + length), mode.clone()),
+                4,
+            ),
+            (
+                5,
+                &with(&|bytes| bytes[18 + length] = 0, stranger.clone()),
+                6,
+            ),
+            (5, &stranger, 6),
+            (5, &mode, 7),
+            (5, &right, if long { 7 } else { 0 }),
+            (5, &right, if long { 7 } else { 9 }),
+        ] {
+            assert_eq!(
+                bench.status(0, 4, (3, 1), count, bytes),
+                status,
+                "{bytes:?}"
+            );
+        }
+        bench.status(0, 4, (3, 2), 2, &naming(4_097, 9));
+    }
+    for length in 1..21 {
+        let short = &adding(4_105, 9, &[])[..length];
+        assert_eq!(bench.status(0, 4, (3, 1), 5, short), 4);
+    }
+}
+
+/// Notifications of one entry that are not well formed by their context, whatever their parameter count.
+fn overlong() -> Vec<Vec<u8>> {
+    let mut entries = Vec::new();
+    for count in [1, 2] {
+        for length in [65, 255, 256, 300] {
+            entries.push(notifying(count, length, &vec![7; length.into()], &[]));
+            entries.push(notifying(count, length, &vec![7; length.into()], &[1, 2]));
+        }
+        for (stated, length, rest) in [
+            (1, 0, 0),
+            (64, 63, 0),
+            (10, 1, 8),
+            (9, 0, 0),
+            (65_535, 4, 0),
+        ] {
+            entries.push(notifying(count, stated, &vec![7; length], &vec![1; rest]));
+        }
+        let mut short = notifying(count, 0, &[], &[]);
+        short.pop();
+        short[3] -= 1;
+        entries.push(short);
+    }
+    entries
+}
+
+#[test]
+fn a_context_above_64_or_past_its_entry_is_fault_6_and_11() {
+    for entry in overlong() {
+        let bytes = wire::message(2, std::slice::from_ref(&entry));
+        let reading = Second.read_message(&bytes);
+        assert_eq!((reading.number, reading.fault), (8, 6), "{bytes:?}");
+        assert_eq!(Second.read_entry(&bytes, 0).fault, 6);
+        assert_eq!(Second.entry_part(&bytes, 0), Default::default());
+        assert_eq!(Second.entry_context(&bytes, 0), Default::default());
+        let mut bench = Bench::open(1);
+        let length = bytes.len();
+        assert_eq!(bench.deliver(0, &bytes), (CLOSED, 6, length, vec![]));
+        let mut buffer = vec![9; 2_049];
+        assert_eq!(Second.start(&mut buffer, 2, &entry).number, 11);
+        let sound = notifying(1, 0, &[], &[]);
+        assert_eq!(Second.start(&mut buffer, 2, &sound).number, 0);
+        assert_eq!(Second.append(&mut buffer, 2, &entry).number, 11);
+        buffer[..length].copy_from_slice(&bytes);
+        assert_eq!(Second.append(&mut buffer, 2, &sound).fault, 6);
+        let listed = list(&[hex(MUTED), bytes].concat());
+        assert_eq!(listed, "0 2 1 42\n43 stop 6\n");
+    }
+}
+
+#[test]
+fn the_least_notification_has_23_bytes() {
+    let least = notifying(1, 0, &[], &[]);
+    assert_eq!(least.len(), 23);
+    let bytes = wire::message(2, &[least.clone(), least]);
+    assert_eq!(Second.read_message(&bytes).number, 0);
+    for (index, start) in [(0, 25), (1, 48)] {
+        let context = Second.entry_context(&bytes, index);
+        assert_eq!((context.start, context.length), (start, 0));
+        assert_eq!(Second.entry_part(&bytes, index).length, 0);
+    }
+    let mut bench = Bench::open(1);
+    assert_eq!(bench.send(0, &bytes), []);
+}
+
+#[test]
+fn a_count_that_lies_within_its_entry_is_taken_at_its_word() {
+    // Ten bytes behind a count of 2: eight are emitter and event, and eight more are parameters.
+    let bytes = wire::message(2, &[notifying(2, 2, &[7; 10], &[])]);
+    let entry = Second.read_entry(&bytes, 0);
+    assert_eq!((entry.number, entry.context_count), (0, 2));
+    assert_eq!(entry.emitter, 0x0707_0707);
+    let part = Second.entry_part(&bytes, 0);
+    assert_eq!((part.start, part.length), (35, 8));
+}
+
+#[test]
+fn a_context_keeps_its_rules_in_a_record() {
+    let mut bench = Bench::open(1);
+    assert_eq!(bench.status(0, 4, (3, 1), 5, &adding(4_097, 9, &[7; 5])), 0);
+    let number = |at: usize, edit: &dyn Fn(&mut Subscription)| {
+        let mut record = bench.record;
+        edit(&mut record.device.subscriptions[at]);
+        let mut output = vec![0; 4_096];
+        let number = Second.open(record).number;
+        assert_eq!(Second.take(record, &mut output).number, number);
+        number
+    };
+    for count in 0..=255 {
+        let used = number(0, &|entry| entry.context_count = count);
+        assert_eq!(used, u8::from(!(5..=64).contains(&count)));
+        let free = number(1, &|entry| entry.context_count = count);
+        assert_eq!(free, u8::from(count != 0));
+    }
+    for place in 0..64 {
+        let used = number(0, &|entry| entry.context[place] ^= 1);
+        assert_eq!(used, u8::from(place >= 5));
+        assert_eq!(number(1, &|entry| entry.context[place] = 1), 1);
+    }
+    assert_eq!(number(0, &|entry| entry.context = [1; 64]), 1);
+    let full = |entry: &mut Subscription| (entry.context_count, entry.context) = (64, [1; 64]);
+    assert_eq!(number(0, &full), 0);
+}
+
 const KEY: [u8; 16] = [7, 1, 2, 3, 4, 5, 6, 7, 8, 9, 10, 11, 12, 13, 14, 15];
 const SENTINEL: &str = "DE AF DA DA CA FE BA BE";
 
@@ -743,7 +971,7 @@ fn the_key_resets_a_hung_rack() {
     let mut bench = Bench::open(3);
     bench.send(2, &hex(TWO_SECONDS));
     bench.send(0, &hex(LOCK));
-    assert_eq!(bench.status(1, 4, (3, 1), 5, &adding(4_098, 9, 0)), 0);
+    assert_eq!(bench.status(1, 4, (3, 1), 5, &adding(4_098, 9, &[])), 0);
     assert_eq!(bench.status(0, 4_098, (4, 2), 1, &[1]), 0);
     assert_eq!(bench.set_key(1, KEY, "", 65_001), 0);
     bench.tick(1_500);

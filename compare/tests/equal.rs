@@ -38,8 +38,10 @@ fn messages_said_to_be_sound_are_sound() {
     for _ in 0..20_000 {
         let sound = traffic::any_message(&mut random);
         assert_eq!(Second.read_message(&sound).number, 0, "{sound:?}");
-        let faulty = traffic::count_without_bytes(&mut random);
-        assert_eq!(Second.read_message(&faulty).fault, 6, "{faulty:?}");
+        for faulty in [traffic::count_without_bytes, traffic::overlong_context] {
+            let faulty = faulty(&mut random);
+            assert_eq!(Second.read_message(&faulty).fault, 6, "{faulty:?}");
+        }
     }
     for sound in traffic::samples() {
         assert_eq!(Second.read_message(&sound).number, 0, "{sound:?}");

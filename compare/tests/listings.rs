@@ -28,12 +28,14 @@ enum Slip {
     StopsAtAShortRead,
     TakesACountWithoutBytes,
     TakesAResponseWithoutBytes,
+    TakesALongContext,
+    TakesAContextPastItsEntry,
     ListsTheFaultyMessage,
 }
 
 use Slip::*;
 
-const ALL: [Slip; 18] = [
+const ALL: [Slip; 20] = [
     OffsetFromOne,
     HeldBeforeRead,
     StopsBehindTheFirst,
@@ -51,19 +53,23 @@ const ALL: [Slip; 18] = [
     StopsAtAShortRead,
     TakesACountWithoutBytes,
     TakesAResponseWithoutBytes,
+    TakesALongContext,
+    TakesAContextPastItsEntry,
     ListsTheFaultyMessage,
 ];
 
 /// What the bytes held come to, for a program that may take more.
 fn judged(held: &[u8], slip: Slip) -> Judgement {
-    let takes: older::Takes = match slip {
-        TakesACountWithoutBytes => older::without_bytes,
+    let judges: older::Judges = match slip {
+        TakesACountWithoutBytes => |shape| older::without_bytes(shape).then_some(true),
         TakesAResponseWithoutBytes => {
-            |kind, count, length| kind == 3 && older::without_bytes(kind, count, length)
+            |shape| (shape.kind == 3 && older::without_bytes(shape)).then_some(true)
         }
-        _ => |_, _, _| false,
+        TakesALongContext => |shape| older::long_context(shape).then_some(true),
+        TakesAContextPastItsEntry => |shape| (shape.context > shape.behind).then_some(true),
+        _ => |_| Option::None,
     };
-    wire::judge(&older::message(takes, held))
+    wire::judge(&older::message(judges, held))
 }
 
 /// The reads that the input comes in, an empty one behind them.

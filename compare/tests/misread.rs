@@ -32,10 +32,11 @@ enum Wrong {
     Reading(fn(&mut Reading)),
     Entry(fn(&mut Entry)),
     Part(fn(&mut Part)),
+    Context(fn(&mut Part)),
     Written(fn(&mut Written)),
 }
 
-const WRONG: [(&str, Wrong); 43] = [
+const WRONG: [(&str, Wrong); 52] = [
     ("held", Wrong::Record(|r| r.held.reverse())),
     (
         "connections",
@@ -89,7 +90,30 @@ const WRONG: [(&str, Wrong); 43] = [
     ),
     (
         "method, context",
-        Wrong::Subscription(|e| swap(&mut e.method, &mut e.context)),
+        Wrong::Subscription(|e| {
+            let method = e.method.to_ne_bytes();
+            let front: [u8; 4] = e.context[..4].try_into().expect("four bytes");
+            e.method = u32::from_ne_bytes(front);
+            e.context[..4].copy_from_slice(&method);
+        }),
+    ),
+    ("context", Wrong::Subscription(|e| e.context.reverse())),
+    (
+        "connection, context count",
+        Wrong::Subscription(|e| swap(&mut e.connection, &mut e.context_count)),
+    ),
+    (
+        "waiting, context count",
+        Wrong::Subscription(|e| {
+            // Only 0 and 1 can stand in both places.
+            if e.context_count < 2 {
+                (e.waiting, e.context_count) = (e.context_count == 1, u8::from(e.waiting));
+            }
+        }),
+    ),
+    (
+        "context count, context",
+        Wrong::Subscription(|e| swap(&mut e.context_count, &mut e.context[0])),
     ),
     (
         "holders, key",
@@ -178,8 +202,30 @@ const WRONG: [(&str, Wrong); 43] = [
         Wrong::Entry(|a| swap(&mut a.count, &mut a.status)),
     ),
     (
-        "entry context, emitter",
-        Wrong::Entry(|a| swap(&mut a.context, &mut a.emitter)),
+        "entry status, context count",
+        Wrong::Entry(|a| {
+            let status = u16::from(a.status);
+            (a.status, a.context_count) = (a.context_count as u8, status);
+        }),
+    ),
+    (
+        "entry context count",
+        Wrong::Entry(|a| a.context_count = a.context_count.swap_bytes()),
+    ),
+    (
+        "entry context count, emitter",
+        Wrong::Entry(|a| {
+            let count = u32::from(a.context_count);
+            (a.context_count, a.emitter) = (a.emitter as u16, count);
+        }),
+    ),
+    (
+        "entry index, context count",
+        Wrong::Entry(|a| swap(&mut a.index, &mut a.context_count)),
+    ),
+    (
+        "entry context count, event level",
+        Wrong::Entry(|a| swap(&mut a.context_count, &mut a.event_level)),
     ),
     (
         "event level, index",
@@ -190,6 +236,10 @@ const WRONG: [(&str, Wrong); 43] = [
         Wrong::Entry(|a| swap(&mut a.index, &mut a.event_level)),
     ),
     ("part", Wrong::Part(|a| swap(&mut a.start, &mut a.length))),
+    (
+        "context's part",
+        Wrong::Context(|a| swap(&mut a.start, &mut a.length)),
+    ),
     (
         "written",
         Wrong::Written(|a| swap(&mut a.number, &mut a.fault)),
@@ -318,6 +368,14 @@ impl Engine for Misread {
     fn entry_part(&self, bytes: &[u8], index: usize) -> Part {
         let mut answer = RIGHT.entry_part(bytes, index);
         if let Wrong::Part(edit) = self.0 {
+            edit(&mut answer);
+        }
+        answer
+    }
+
+    fn entry_context(&self, bytes: &[u8], index: usize) -> Part {
+        let mut answer = RIGHT.entry_context(bytes, index);
+        if let Wrong::Context(edit) = self.0 {
             edit(&mut answer);
         }
         answer

@@ -11,8 +11,8 @@ use compare::answer::{
 use compare::engine::Engine;
 use compare::harness::gate;
 use compare::harness::reset::{SENTINEL, asking};
-use compare::harness::traffic::framed;
-use compare::record::{AREA, Device, Mechanism, Record};
+use compare::harness::traffic::{blob, framed, message, naming};
+use compare::record::{AREA, CONTEXT, Device, Mechanism, Record, Subscription};
 use compare::second::{Second, address, rules};
 use std::ops::Range;
 
@@ -67,6 +67,16 @@ slips! {
     OtherHoldersMaySet,
     SetToTheSameMarks,
     ContextTellsTwinsApart,
+    TwinTakesTheNewContext,
+    AddTakesAContextOf65,
+    EmptyContextRefused,
+    ValueBeforeEmitter,
+    LongContextBeforeLength,
+    FourContextBytesKept,
+    ContextKeptPastItsCount,
+    OlderContextNotCleared,
+    RemoveLeavesTheContext,
+    CloseLeavesTheContext,
     FullTableBeforeTwin,
     HandlesNotCopied,
     TwinsUnseen,
@@ -74,6 +84,9 @@ slips! {
     OddSecondsUnseen,
     DueWithQuietUnseen,
     FreeEntryContextUnseen,
+    FreeEntryContextCountUnseen,
+    ContextCountAbove64Unseen,
+    BytesPastTheCountUnseen,
     UndecidedAtMost2049,
     LastByteOfTheAreaUnseen,
     DecidedBytesUnseen,
@@ -81,6 +94,9 @@ slips! {
     KeepAlivesFirst,
     HighestEntryFirst,
     TakeKeepsQuiet,
+    FourContextBytesSent,
+    AllContextBytesSent,
+    ContextSentWithoutItsCount,
     ReaderLooksBehind,
     CountWithoutBytesTaken,
     ReaderTakesCountWithoutBytes,
@@ -90,6 +106,15 @@ slips! {
     NotificationOfTwoWithoutBytesTaken,
     NotificationOfOneWithBytesTaken,
     RunsBeforeACountWithoutBytes,
+    LongContextTaken,
+    ContextOf65Taken,
+    ReaderTakesALongContext,
+    DeliveryTakesALongContext,
+    WriterTakesALongContext,
+    ContextOf64Refused,
+    ContextPastItsEntryTaken,
+    ContextCountIn8Bits,
+    LeastNotificationOf25,
     StatusAndCountSwapped,
     KeepAliveHasAnEntry,
     PartFromTheEntry,
@@ -98,6 +123,13 @@ slips! {
     EntryBehindIsRead,
     PartOfTheEntryBefore,
     PartToTheEndOfTheMessage,
+    PartFrom23,
+    ContextFromItsCount,
+    ContextWithItsCount,
+    EmptyContextNowhere,
+    ContextOfACommand,
+    RefusedContextHasAPlace,
+    ContextOfTheEntryBefore,
     TooLongBeforeBadEntry,
     AppendTouchesBehind,
     CommandTypesMixed,
@@ -182,11 +214,53 @@ const DELIVERY: &str = "a delivery is not what the counts and bytes say";
 const WRITING: &str = "an entry is not written as its count and bytes say";
 const PART: &str = "an entry's count and part do not agree";
 
+/// Whoever goes wrong about a context, with what is told of it.
+const CONTEXTS: [(Slip, &str); 26] = [
+    (LongContextTaken, READING),
+    (ContextOf65Taken, READING),
+    (ReaderTakesALongContext, READING),
+    (DeliveryTakesALongContext, DELIVERY),
+    (WriterTakesALongContext, WRITING),
+    (ContextOf64Refused, READING),
+    (ContextPastItsEntryTaken, READING),
+    (ContextCountIn8Bits, READING),
+    (LeastNotificationOf25, READING),
+    (PartFrom23, PART),
+    (ContextFromItsCount, PLACE),
+    (ContextWithItsCount, PLACE),
+    (EmptyContextNowhere, PLACE),
+    (ContextOfACommand, PLACE),
+    (RefusedContextHasAPlace, PLACE),
+    (ContextOfTheEntryBefore, PLACE),
+    (ContextTellsTwinsApart, COMMAND),
+    (TwinTakesTheNewContext, COMMAND),
+    (AddTakesAContextOf65, COMMAND),
+    (EmptyContextRefused, COMMAND),
+    (ValueBeforeEmitter, COMMAND),
+    (LongContextBeforeLength, COMMAND),
+    (FourContextBytesKept, COMMAND),
+    (FourContextBytesSent, SENDING),
+    (AllContextBytesSent, SENDING),
+    (ContextSentWithoutItsCount, SENDING),
+];
+const PLACE: &str = "an entry's context and its count do not agree";
+const COMMAND: &str = "a command is not run as its context says";
+const SENDING: &str = "a notification is not sent with its context";
+
 #[test]
 fn a_count_without_bytes_is_found_where_both_programs_take_it() {
-    for (slip, reason) in COUNTS_AND_BYTES {
-        let difference = gate::gate(&Slipping(slip), &Slipping(slip)).expect_err("a slip");
-        assert_eq!(difference.reason, reason, "{slip:?}");
+    both_are_found(&COUNTS_AND_BYTES);
+}
+
+#[test]
+fn a_wrong_context_is_found_where_both_programs_have_it() {
+    both_are_found(&CONTEXTS);
+}
+
+fn both_are_found(slips: &[(Slip, &str)]) {
+    for (slip, reason) in slips {
+        let difference = gate::gate(&Slipping(*slip), &Slipping(*slip)).expect_err("a slip");
+        assert_eq!(difference.reason, *reason, "{slip:?}");
     }
 }
 
@@ -261,13 +335,6 @@ impl Slipping {
                     }
                 }
             }
-            FreeEntryContextUnseen => {
-                for entry in &mut device.subscriptions {
-                    if !entry.used {
-                        entry.context = 0;
-                    }
-                }
-            }
             UndecidedAtMost2049 => {
                 for held in &mut seen.held {
                     if *held == 2_049 {
@@ -275,9 +342,26 @@ impl Slipping {
                     }
                 }
             }
-            _ => self.see_mechanism(&mut seen),
+            _ => {
+                for entry in &mut device.subscriptions {
+                    self.see_context(entry);
+                }
+                self.see_mechanism(&mut seen);
+            }
         }
         seen
+    }
+
+    /// The entry as a program sees it that misses a rule of its context.
+    fn see_context(&self, entry: &mut Subscription) {
+        let count = usize::from(entry.context_count).min(CONTEXT);
+        match self.0 {
+            FreeEntryContextUnseen if !entry.used => entry.context = [0; CONTEXT],
+            FreeEntryContextCountUnseen if !entry.used => entry.context_count = 0,
+            ContextCountAbove64Unseen if entry.used => entry.context_count = count as u8,
+            BytesPastTheCountUnseen if entry.used => entry.context[count..].fill(0),
+            _ => {}
+        }
     }
 
     /// The mechanism is seen otherwise only where no other rule is broken.
@@ -320,7 +404,7 @@ impl Slipping {
         piece: &[u8],
         answer: &mut Delivered,
     ) -> Option<u8> {
-        let (count, parameters) = only_setting(piece)?;
+        let (count, parameters) = only_command(piece, SET_RESET_KEY)?;
         let (text, port) = text_and_port(parameters)?;
         let after = &mut answer.record.device.mechanism;
         let set = *after != *before;
@@ -340,6 +424,84 @@ impl Slipping {
             _ => {}
         }
         None
+    }
+
+    /// The status that a program gives to 3.1 that tests out of order, or its context by another rule.
+    fn add_status(&self, before: &Device, n: u8, piece: &[u8]) -> Option<u8> {
+        let (count, parameters) = only_command(piece, ADD)?;
+        let stated = parameters.get(16..18)?;
+        let stated = usize::from(u16::from_be_bytes([stated[0], stated[1]]));
+        let exact = parameters.len() == 21 + stated;
+        if self.is(LongContextBeforeLength) && stated > CONTEXT && !exact {
+            return Some(7);
+        }
+        if count != 5 || !exact || !parameters.ends_with(&[0, 0]) {
+            return None;
+        }
+        let wrong = parameters[18 + stated] != 1;
+        let (mute, event) = parameters[..8].split_at(4);
+        if mute[..3] != [0, 0, 0x10] || !(1..=8).contains(&mute[3]) || event != [0, 1, 0, 1] {
+            let first = self.is(ValueBeforeEmitter) && (wrong || stated > CONTEXT);
+            return first.then_some(7);
+        }
+        let mut entries = before.subscriptions.iter();
+        let full = entries.clone().all(|entry| entry.used);
+        let twin = entries.find(|entry| is_named(entry, n, parameters));
+        let other = |entry: &Subscription| held(entry) != &parameters[18..18 + stated];
+        match self.0 {
+            _ if wrong => None,
+            AddTakesAContextOf65 if stated == 65 => Some(0),
+            _ if stated > CONTEXT => None,
+            EmptyContextRefused if stated == 0 => Some(7),
+            ContextTellsTwinsApart if twin.is_some_and(other) => Some(0),
+            FullTableBeforeTwin if twin.is_some() && full => Some(10),
+            _ => None,
+        }
+    }
+
+    /// What a program leaves in the entry that 3.1 names, if it is the only command and well formed.
+    fn add_slips(&self, before: &Device, n: u8, piece: &[u8], after: &mut Device) -> Option<()> {
+        let (_, parameters) = only_command(piece, ADD)?;
+        let context = parameters.get(18..parameters.len().checked_sub(3)?)?;
+        let mut entries = after.subscriptions.iter_mut().zip(&before.subscriptions);
+        let (entry, was) = entries.find(|(entry, _)| is_named(entry, n, parameters))?;
+        match self.0 {
+            TwinTakesTheNewContext if was.used && context.len() <= CONTEXT => hold(entry, context),
+            _ if was.used => {}
+            FourContextBytesKept => hold(entry, &context[..context.len().min(4)]),
+            ContextKeptPastItsCount => {
+                let behind = &parameters[18..parameters.len().min(18 + CONTEXT)];
+                entry.context[..behind.len()].copy_from_slice(behind);
+            }
+            _ => {}
+        }
+        Some(())
+    }
+
+    /// What a message leaves of contexts that it should not.
+    fn context_slips(&self, before: &Device, after: &mut Device) {
+        let mut older = [0; CONTEXT];
+        for (entry, was) in after.subscriptions.iter_mut().zip(&before.subscriptions) {
+            match self.0 {
+                RemoveLeavesTheContext if was.used && !entry.used => entry.context = was.context,
+                OlderContextNotCleared if entry.used && !was.used => {
+                    let count = usize::from(entry.context_count);
+                    entry.context[count..].copy_from_slice(&older[count..]);
+                    older = entry.context;
+                }
+                _ => {}
+            }
+        }
+    }
+
+    /// The context that a notification is sent with, if it is another; none for one without a count.
+    fn sent(&self, entry: &Subscription) -> Option<Vec<u8>> {
+        match self.0 {
+            FourContextBytesSent => Some(blob(&entry.context[..4])),
+            AllContextBytesSent => Some(blob(&entry.context)),
+            ContextSentWithoutItsCount => Some(held(entry).to_vec()),
+            _ => None,
+        }
     }
 
     /// What a text is to a program that takes too many; empty if no slip is made.
@@ -362,35 +524,60 @@ impl Slipping {
         self.0 == slip
     }
 
-    /// Which entries all calls of the program take that are not well formed.
-    fn takes(&self) -> older::Takes {
+    /// How all calls of the program judge entries.
+    fn judges(&self) -> older::Judges {
         match self.0 {
-            CountWithoutBytesTaken => older::without_bytes,
+            CountWithoutBytesTaken => |shape| older::without_bytes(shape).then_some(true),
             ResponseWithoutBytesTaken => {
-                |kind, count, length| kind == 3 && older::without_bytes(kind, count, length)
+                |shape| (shape.kind == 3 && older::without_bytes(shape)).then_some(true)
             }
-            NotificationOfTwoWithoutBytesTaken => {
-                |kind, count, length| (kind, count, length) == (2, 2, 0)
+            NotificationOfTwoWithoutBytesTaken => |shape| {
+                let two = (shape.kind, shape.count) == (2, 2);
+                (two && older::without_bytes(shape)).then_some(true)
+            },
+            NotificationOfOneWithBytesTaken => |shape| {
+                let one = (shape.kind, shape.count) == (2, 1) && shape.context <= CONTEXT;
+                (one && shape.behind > shape.context).then_some(true)
+            },
+            LongContextTaken => |shape| older::long_context(shape).then_some(true),
+            ContextOf65Taken => {
+                |shape| (shape.context == 65 && older::long_context(shape)).then_some(true)
             }
-            NotificationOfOneWithBytesTaken => {
-                |kind, count, length| (kind, count) == (2, 1) && length > 0
-            }
-            _ => |_, _, _| false,
+            ContextOf64Refused => |shape| (shape.context == 64).then_some(false),
+            ContextPastItsEntryTaken => |shape| {
+                let past = shape.context > shape.behind && shape.context <= CONTEXT;
+                past.then_some(true)
+            },
+            ContextCountIn8Bits => |shape| {
+                let low = shape.context % 256;
+                let taken = shape.context > 255 && low <= CONTEXT && shape.fits(low);
+                taken.then_some(true)
+            },
+            LeastNotificationOf25 => |shape| (shape.kind == 2 && shape.behind < 2).then_some(false),
+            _ => |_| None,
         }
     }
 
-    /// What the call takes besides: some slip in one of them alone.
-    fn takes_in(&self, slip: Slip) -> older::Takes {
-        if self.is(slip) {
-            older::without_bytes
+    /// How the call judges entries: some slip in one of them alone.
+    fn judges_in(&self, bare: Slip, long: Slip) -> older::Judges {
+        if self.is(bare) {
+            |shape| older::without_bytes(shape).then_some(true)
+        } else if self.is(long) {
+            |shape| older::long_context(shape).then_some(true)
         } else {
-            self.takes()
+            self.judges()
         }
     }
 
     /// The bytes as the reader sees them.
     fn read_seen(&self, bytes: &[u8]) -> Vec<u8> {
-        older::message(self.takes_in(ReaderTakesCountWithoutBytes), bytes)
+        let judges = self.judges_in(ReaderTakesCountWithoutBytes, ReaderTakesALongContext);
+        older::message(judges, bytes)
+    }
+
+    /// How the writer judges the entry that it is given.
+    fn write_judges(&self) -> older::Judges {
+        self.judges_in(WriterTakesCountWithoutBytes, WriterTakesALongContext)
     }
 
     /// Delivers what is held and the piece as the program sees them.
@@ -407,7 +594,8 @@ impl Slipping {
         };
         let before = area.to_vec();
         let bytes = [&area[held.clone()], piece].concat();
-        let seen = older::message(self.takes_in(DeliveryTakesCountWithoutBytes), &bytes);
+        let judges = self.judges_in(DeliveryTakesCountWithoutBytes, DeliveryTakesALongContext);
+        let seen = older::message(judges, &bytes);
         let (front, piece) = seen.split_at(held.len());
         area[held].copy_from_slice(front);
         let answer = Second.deliver(record, area, n, piece, output);
@@ -430,9 +618,10 @@ fn run_before(record: &Record, area: &[u8], n: u8, piece: &[u8]) -> Option<Devic
     let bytes = [&area[undecided(record, area, n)?], piece].concat();
     let kind = *bytes.get(7)?;
     let entries = older::entries(&bytes);
+    let bare: older::Judges = |shape| older::without_bytes(shape).then_some(true);
     let count = entries.iter().position(|place| {
         let entry = &bytes[place.clone()];
-        older::entry(older::without_bytes, kind, entry) != entry
+        older::entry(bare, kind, entry) != entry
     })?;
     let end = entries[count].start;
     let front = framed(1, end as u32 - 1, kind, count as u16, &bytes[10..end]);
@@ -457,6 +646,7 @@ fn hide_twins(record: &mut Record) {
         let entry = &mut rest[0];
         let twin = before.iter().any(|other| {
             let mut same = *other;
+            same.context_count = entry.context_count;
             same.context = entry.context;
             same.waiting = entry.waiting;
             entry.used && same == *entry
@@ -480,16 +670,46 @@ fn first_set(piece: &[u8]) -> Option<(usize, u8)> {
         .then(|| (usize::from(piece[21]) - 1, piece[27]))
 }
 
-/// The count and the parameters of the 3.14 that is the piece's only command.
-fn only_setting(piece: &[u8]) -> Option<(u8, &[u8])> {
+/// Objects and methods as a command names them.
+const SET_RESET_KEY: [u8; 8] = [0, 0, 0, 1, 0, 3, 0, 14];
+const ADD: [u8; 8] = [0, 0, 0, 4, 0, 3, 0, 1];
+
+/// The count and the parameters of the piece's only command, if it is of that object and method.
+fn only_command(piece: &[u8], name: [u8; 8]) -> Option<(u8, &[u8])> {
     let whole = piece.len() >= 27 && piece[7] < 2 && piece[8..10] == [0, 1];
     let length = 1 + usize::from(u16::from_be_bytes([*piece.get(5)?, *piece.get(6)?]));
-    let set = whole && piece[18..26] == [0, 0, 0, 1, 0, 3, 0, 14];
-    set.then(|| {
+    let named = whole && piece[18..26] == name;
+    named.then(|| {
         piece
             .get(27..length)
             .map(|parameters| (piece[26], parameters))
     })?
+}
+
+/// Whether the entry is in use, of connection n, and the parameters name it.
+fn is_named(entry: &Subscription, n: u8, parameters: &[u8]) -> bool {
+    let name = naming(entry.emitter, entry.event, entry.object, entry.method);
+    entry.used && entry.connection == n && parameters.starts_with(&name)
+}
+
+/// The context that the entry holds.
+fn held(entry: &Subscription) -> &[u8] {
+    &entry.context[..usize::from(entry.context_count)]
+}
+
+/// Gives the entry another context.
+fn hold(entry: &mut Subscription, context: &[u8]) {
+    entry.context = [0; CONTEXT];
+    entry.context[..context.len()].copy_from_slice(context);
+    entry.context_count = context.len() as u8;
+}
+
+/// The message of one notification, with these bytes for the context and its count.
+fn sent_with(bytes: &[u8], context: &[u8]) -> Vec<u8> {
+    let count = usize::from(u16::from_be_bytes([bytes[23], bytes[24]]));
+    let rest = [&bytes[14..23], context, &bytes[25 + count..]].concat();
+    let size = 4 + rest.len() as u32;
+    message(2, &[[&size.to_be_bytes()[..], &rest].concat()])
 }
 
 /// The text that the text length tells, and the port behind it.
@@ -548,6 +768,12 @@ impl Engine for Slipping {
             CloseKeepsLocks => answer.record.device.holders = record.device.holders,
             CloseKeepsEntries => answer.record.device.subscriptions = record.device.subscriptions,
             CloseKeepsUndecidedBytes => area.copy_from_slice(&before),
+            CloseLeavesTheContext => {
+                let entries = answer.record.device.subscriptions.iter_mut();
+                for (entry, was) in entries.zip(&record.device.subscriptions) {
+                    entry.context = was.context;
+                }
+            }
             CloseClearsTheKey => answer.record.device.mechanism = Mechanism::default(),
             _ => {}
         }
@@ -630,10 +856,17 @@ impl Engine for Slipping {
         if answer.number == 0
             && answer.kind == MESSAGE
             && record.held[at] == 0
-            && let Some(status) = self.setting_slips(&before.mechanism, piece, &mut answer)
+            && let Some(status) = self
+                .setting_slips(&before.mechanism, piece, &mut answer)
+                .or_else(|| self.add_status(&before, n, piece))
             && answer.length > 0
         {
             output[18] = status;
+        }
+        if answer.number == 0 && answer.kind == MESSAGE {
+            let after = &mut answer.record.device;
+            self.add_slips(&before, n, piece, after);
+            self.context_slips(&before, after);
         }
         let set = only_set(piece);
         let connection = &mut answer.record.device.connections[at];
@@ -676,20 +909,6 @@ impl Engine for Slipping {
                     }
                 }
             }
-            ContextTellsTwinsApart if message && answer.length == 20 && piece.len() == 50 => {
-                let add = piece[25] == 1;
-                output[18] = if add && output[18] == 9 {
-                    0
-                } else {
-                    output[18]
-                };
-            }
-            FullTableBeforeTwin if message && answer.length == 20 && piece.len() == 50 => {
-                let full = before.subscriptions.iter().all(|entry| entry.used);
-                if output[18] == 9 && full {
-                    output[18] = 10;
-                }
-            }
             FaultClearsTheKey if answer.kind == CLOSED => {
                 answer.record.device.mechanism = Mechanism::default();
             }
@@ -710,11 +929,20 @@ impl Engine for Slipping {
     }
 
     fn take(&self, record: Record, output: &mut [u8]) -> Taken {
+        let given = output.to_vec();
         let mut answer = Second.take(self.seen(&record), output);
         if answer.number != 0 {
             return answer;
         }
         let device = &record.device;
+        if let Some(entry) = device.subscriptions.iter().find(|entry| entry.waiting)
+            && let Some(context) = self.sent(entry)
+        {
+            let sent = sent_with(&output[..answer.length], &context);
+            output.copy_from_slice(&given);
+            output[..sent.len()].copy_from_slice(&sent);
+            answer.length = sent.len();
+        }
         let due = device.connections.iter().position(|other| other.due);
         let highest = device.subscriptions.iter().rposition(|entry| entry.waiting);
         match self.0 {
@@ -786,8 +1014,8 @@ impl Engine for Slipping {
         let mut answer = Second.read_entry(&seen, index);
         if seen != bytes && answer.number == 0 {
             // The count that stands there, not the one that is seen.
-            let back = if answer.kind == 2 { 13 } else { 1 };
-            answer.count = bytes[Second.entry_part(&seen, index).start - back];
+            let (place, _) = older::layout(bytes[7]).unwrap_or_default();
+            answer.count = bytes[older::entries(bytes)[index].start + place];
         }
         match self.0 {
             StatusAndCountSwapped if answer.kind == 3 => {
@@ -824,14 +1052,39 @@ impl Engine for Slipping {
             PartToTheEndOfTheMessage if answer.start != 0 => {
                 answer.length = Second.read_message(bytes).length - answer.start;
             }
+            PartFrom23 => {
+                let context = Second.entry_context(bytes, index);
+                answer.start -= context.length;
+                answer.length += context.length;
+            }
+            _ => {}
+        }
+        answer
+    }
+
+    fn entry_context(&self, bytes: &[u8], index: usize) -> Part {
+        let mut answer = Second.entry_context(&self.read_seen(bytes), index);
+        let refused = Second.read_entry(bytes, index).number != 0;
+        match self.0 {
+            ContextFromItsCount if answer.start != 0 => answer.start -= 2,
+            ContextWithItsCount if answer.start != 0 => {
+                answer.start -= 2;
+                answer.length += 2;
+            }
+            EmptyContextNowhere if answer.length == 0 => answer = Part::default(),
+            ContextOfACommand if answer.start == 0 && !refused => answer.start = 10,
+            RefusedContextHasAPlace if refused => answer.start = 10,
+            ContextOfTheEntryBefore if answer.start != 0 && index > 0 => {
+                answer = Second.entry_context(bytes, index - 1);
+            }
             _ => {}
         }
         answer
     }
 
     fn start(&self, buffer: &mut [u8], kind: u8, entry: &[u8]) -> Written {
-        let takes = self.takes_in(WriterTakesCountWithoutBytes);
-        let mut answer = Second.start(buffer, kind, &older::entry(takes, kind, entry));
+        let judges = self.write_judges();
+        let mut answer = Second.start(buffer, kind, &older::entry(judges, kind, entry));
         if answer.number == 0 {
             buffer[10..answer.length].copy_from_slice(entry);
         }
@@ -844,9 +1097,9 @@ impl Engine for Slipping {
     fn append(&self, buffer: &mut [u8], kind: u8, entry: &[u8]) -> Written {
         let before = buffer.get(7).copied().unwrap_or_default();
         let given = buffer.to_vec();
-        buffer.copy_from_slice(&older::message(self.takes(), &given));
-        let takes = self.takes_in(WriterTakesCountWithoutBytes);
-        let mut answer = Second.append(buffer, kind, &older::entry(takes, kind, entry));
+        buffer.copy_from_slice(&older::message(self.judges(), &given));
+        let judges = self.write_judges();
+        let mut answer = Second.append(buffer, kind, &older::entry(judges, kind, entry));
         if answer.number == 0 {
             let end = answer.length - entry.len();
             buffer[10..end].copy_from_slice(&given[10..end]);

@@ -17,7 +17,8 @@ macro_rules! tell {
 
 fn main() {
     tell!(Connection: live, form, beat, silence, quiet, due);
-    tell!(Subscription: used, waiting, connection, emitter, event, object, method, context);
+    tell!(Subscription: used, waiting, connection, context_count, emitter, event, object, method,
+        context);
     tell!(Mechanism: armed, key, address, port);
     tell!(Device: reading, connections, subscriptions, mutes, holders, mechanism);
     tell!(Record: device, held);
@@ -29,8 +30,8 @@ fn main() {
     tell!(Taken: record, number, kind, connection, length);
     tell!(Reset: record, number, reset);
     tell!(Reading: number, fault, kind, count, form, value, length);
-    tell!(Entry: number, fault, kind, handle, target, level, index, count, status, context, emitter,
-        event_level, event_index);
+    tell!(Entry: number, fault, kind, handle, target, level, index, count, status, context_count,
+        emitter, event_level, event_index);
     tell!(Part: start, length);
     tell!(Written: number, fault, length);
 }

@@ -14,7 +14,7 @@ use compare::answer::{MESSAGE, MORE};
 use compare::engine::Engine;
 use compare::fast;
 use compare::harness::random::Random;
-use compare::harness::traffic::{adding, command, keep_alive, message, naming};
+use compare::harness::traffic::{adding, blob, command, keep_alive, message, naming};
 use compare::record::{AREA, Record};
 use compare::second::Second;
 use std::hash::{DefaultHasher, Hash, Hasher};
@@ -303,12 +303,17 @@ fn prepared(entries: u32) -> Host {
         send(&mut host, n, &keep_alive(1, 30));
         for each in 0..entries / 2 {
             let name = naming(4_097 + each % 8, EVENT, 9 + each / 8, 0x0003_0001);
-            let add = command(1, 4, (3, 1), 5, &adding(&name, 7, 1, [0, 0]));
+            let add = command(1, 4, (3, 1), 5, &adding(&name, &context(), 1, [0, 0]));
             send(&mut host, n, &message(0, &[add]));
         }
     }
     host.output.fill(0);
     host
+}
+
+/// The context of every subscription, behind its count.
+fn context() -> Vec<u8> {
+    blob(&[0, 0, 0, 7])
 }
 
 fn send(host: &mut Host, n: u8, bytes: &[u8]) {
@@ -368,7 +373,7 @@ fn set(place: u32) -> Vec<u8> {
 fn add_or_remove(place: u32) -> Vec<u8> {
     let name = naming(4_097 + place / 2 % 8, EVENT, 99, 0x0003_0001);
     match place % 2 {
-        0 => command(place, 4, (3, 1), 5, &adding(&name, 7, 1, [0, 0])),
+        0 => command(place, 4, (3, 1), 5, &adding(&name, &context(), 1, [0, 0])),
         _ => command(place, 4, (3, 2), 2, &name),
     }
 }

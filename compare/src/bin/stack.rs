@@ -143,6 +143,10 @@ impl Engine for Painted {
         self.measured("entry_part", || Ours.entry_part(bytes, index))
     }
 
+    fn entry_context(&self, bytes: &[u8], index: usize) -> Part {
+        self.measured("entry_context", || Ours.entry_context(bytes, index))
+    }
+
     fn start(&self, buffer: &mut [u8], kind: u8, entry: &[u8]) -> Written {
         self.measured("start", || Ours.start(buffer, kind, entry))
     }

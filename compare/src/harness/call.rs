@@ -56,6 +56,10 @@ pub enum Call {
         bytes: Vec<u8>,
         index: usize,
     },
+    EntryContext {
+        bytes: Vec<u8>,
+        index: usize,
+    },
     Start {
         buffer: Vec<u8>,
         kind: u8,
@@ -74,7 +78,7 @@ pub enum Call {
 }
 
 /// The calls' names, in the order of [`Call::place`].
-pub const NAMES: [&str; 14] = [
+pub const NAMES: [&str; 15] = [
     "fresh",
     "clear",
     "open",
@@ -86,6 +90,7 @@ pub const NAMES: [&str; 14] = [
     "read_message",
     "read_entry",
     "entry_part",
+    "entry_context",
     "start",
     "append",
     "keep_alive",
@@ -132,9 +137,10 @@ impl Call {
             Call::ReadMessage { .. } => 8,
             Call::ReadEntry { .. } => 9,
             Call::EntryPart { .. } => 10,
-            Call::Start { .. } => 11,
-            Call::Append { .. } => 12,
-            Call::KeepAlive { .. } => 13,
+            Call::EntryContext { .. } => 11,
+            Call::Start { .. } => 12,
+            Call::Append { .. } => 13,
+            Call::KeepAlive { .. } => 14,
         }
     }
 
@@ -205,6 +211,9 @@ impl Call {
             Call::ReadMessage { bytes } => Answer::Reading(engine.read_message(bytes)),
             Call::ReadEntry { bytes, index } => Answer::Entry(engine.read_entry(bytes, *index)),
             Call::EntryPart { bytes, index } => Answer::Part(engine.entry_part(bytes, *index)),
+            Call::EntryContext { bytes, index } => {
+                Answer::Part(engine.entry_context(bytes, *index))
+            }
             Call::Start { kind, entry, .. } => Answer::Written(engine.start(output, *kind, entry)),
             Call::Append { kind, entry, .. } => {
                 Answer::Written(engine.append(output, *kind, entry))
@@ -225,7 +234,9 @@ impl Call {
             Call::Deliver { n, piece, .. } => format!(" connection {n}, piece {}", hex(piece)),
             Call::Datagram { datagram, .. } => format!(" {}", hex(datagram)),
             Call::ReadMessage { bytes } => format!(" {}", hex(bytes)),
-            Call::ReadEntry { bytes, index } | Call::EntryPart { bytes, index } => {
+            Call::ReadEntry { bytes, index }
+            | Call::EntryPart { bytes, index }
+            | Call::EntryContext { bytes, index } => {
                 format!(" index {index} of {}", hex(bytes))
             }
             Call::Start { kind, entry, .. } | Call::Append { kind, entry, .. } => {
@@ -242,16 +253,18 @@ impl Call {
         }
         if let Some(record) = self.record() {
             let _ = write!(text, "\n  {record:?}");
-            for (n, held) in record
-                .held
-                .iter()
-                .enumerate()
-                .filter(|(_, held)| **held > 0)
-            {
-                let share = self.area().iter().skip(2_049 * n);
-                let bytes: Vec<u8> = share.take(usize::from(*held)).copied().collect();
-                let _ = write!(text, "\n  undecided at {n}: {}", hex(&bytes));
-            }
+            text += &self.undecided(record);
+        }
+        text
+    }
+
+    /// A line for each connection that holds bytes.
+    fn undecided(&self, record: &Record) -> String {
+        let mut text = String::new();
+        for (n, held) in record.held.iter().enumerate().filter(|(_, h)| **h > 0) {
+            let share = self.area().iter().skip(2_049 * n);
+            let bytes: Vec<u8> = share.take(usize::from(*held)).copied().collect();
+            let _ = write!(text, "\n  undecided at {n}: {}", hex(&bytes));
         }
         text
     }
@@ -272,6 +285,14 @@ impl Answer {
             Answer::Reading(answer) => answer.number,
             Answer::Entry(answer) => answer.number,
             Answer::Written(answer) => answer.number,
+        }
+    }
+
+    /// The part handed back; where none is, one that is nowhere.
+    pub fn part(&self) -> Part {
+        match self {
+            Answer::Part(part) => *part,
+            _ => Part::default(),
         }
     }
 

@@ -3,7 +3,9 @@
 use super::call::{Answer, Call};
 use super::desk::Desk;
 use super::session::Checked;
+use super::told::told;
 use super::traffic;
+use crate::answer::Reading;
 
 /// Reads bytes of every sort.
 pub fn read(desk: &mut Desk<'_, '_>) -> Checked<()> {
@@ -65,7 +67,7 @@ fn written_entry(desk: &mut Desk<'_, '_>, kind: u8) -> Vec<u8> {
         random.pick(&[0, 1, 2, 3])
     };
     let mut entry = traffic::any_entry(random, real.min(3));
-    match random.below(14) {
+    match random.below(15) {
         0 => entry.push(random.byte()),
         1 => {
             entry.pop();
@@ -79,6 +81,7 @@ fn written_entry(desk: &mut Desk<'_, '_>, kind: u8) -> Vec<u8> {
             let size = random.pick(&[1_900, 2_046, 2_047, 2_048, 2_049, 2_050, 2_500]);
             entry = traffic::of_size(random, real.min(3), size).split_off(10);
         }
+        5 if real == 2 => entry = traffic::overlong(random),
         _ => {}
     }
     entry
@@ -169,38 +172,26 @@ fn read_back(desk: &mut Desk<'_, '_>, kind: u8, given: &[Vec<u8>], bytes: Vec<u8
     };
     let outcome = session.check(call.clone())?;
     let whole = traffic::message(kind, given);
-    let told = match outcome.answer {
-        Answer::Reading(answer) => {
-            (
-                answer.number,
-                answer.kind,
-                answer.count as usize,
-                answer.length,
-            ) == (0, kind, given.len(), whole.len())
-        }
-        _ => false,
+    let wanted = Reading {
+        kind,
+        count: given.len() as u16,
+        length: whole.len(),
+        ..Reading::default()
     };
-    let kept = told && bytes[..whole.len()] == whole;
+    let kept = outcome.answer == Answer::Reading(wanted) && bytes[..whole.len()] == whole;
     session.demand(kept, "the message written is not read back", call)?;
+    let mut start = 10;
     for (index, entry) in given.iter().enumerate() {
-        let bytes = bytes.clone();
-        session.check(Call::ReadEntry {
-            bytes: bytes.clone(),
-            index,
-        })?;
-        let call = Call::EntryPart {
+        let kept = desk
+            .ask_for(&bytes, index)?
+            .agrees(&told(kind, entry, start));
+        let call = Call::ReadEntry {
             bytes: bytes.clone(),
             index,
         };
-        let outcome = session.check(call.clone())?;
-        let least = [17, 17, 25, 10][usize::from(kind)];
-        let kept = match outcome.answer {
-            Answer::Part(part) => {
-                bytes.get(part.start..part.start + part.length) == entry.get(least..)
-            }
-            _ => false,
-        };
-        session.demand(kept, "the part is not the entry's parameters", call)?;
+        desk.session
+            .demand(kept, "an entry written is not read back", call)?;
+        start += entry.len();
     }
     Ok(())
 }

@@ -1,6 +1,7 @@
 //! What a run exercised.
 
 use super::call::{Answer, Call, NAMES, Outcome};
+use super::context_counts::ContextCounts;
 use super::reset_counts::ResetCounts;
 use crate::answer::{CLOSED, KEEP_ALIVE, MESSAGE, MORE, NOTIFICATION};
 use crate::record::SHARE;
@@ -25,6 +26,29 @@ const POSSIBLE: [(&str, &[u8]); 12] = [
     ("start", &[4, 10, 11]),
     ("append", &[4, 8, 10, 11]),
     ("keep_alive", &[4, 11]),
+];
+
+/// The calls that are given a record.
+pub const GIVEN: [&str; 6] = ["open", "close", "tick", "deliver", "take", "datagram"];
+
+/// What a plan tries entries for.
+#[derive(Clone, Copy, Debug)]
+pub enum Tries {
+    /// A count without bytes.
+    Counts,
+    /// A context above 64 or past its entry.
+    Contexts,
+}
+
+const TRIES: [&str; 2] = ["count without bytes", "context too long"];
+
+/// Entries tried, each in a message; closures and writes are counted of those that have what the plan tries them for.
+const TRIED: [&str; 5] = [
+    "tried",
+    "not well formed",
+    "by this",
+    "closures",
+    "not written by 11",
 ];
 
 /// Counts of all that came.
@@ -57,17 +81,10 @@ pub struct Counts {
     clocks: u64,
     /// Those of them that closed a connection.
     clocks_closing: u64,
-    /// Entries of a given count and so many bytes, each in a message.
-    tried: u64,
-    /// Those of them that are not well formed.
-    tried_faulty: u64,
-    /// Those of them that have a count and no bytes.
-    tried_bare: u64,
-    /// Closures by a message that has one of these.
-    bare_closures: u64,
-    /// Writes of one of these, refused by 11.
-    bare_unwritten: u64,
+    /// By what they are tried for.
+    tries: [[u64; TRIED.len()]; TRIES.len()],
     reset: ResetCounts,
+    contexts: ContextCounts,
 }
 
 impl Counts {
@@ -79,6 +96,7 @@ impl Counts {
         self.refusals[place][number.min(12)] += 1;
         self.count_beyond(call, number);
         self.reset.count(call, outcome);
+        self.contexts.count(call, outcome);
         match (call, &outcome.answer) {
             (Call::Close { .. }, Answer::Closed(answer)) if answer.number == 0 => {
                 self.closed_by_host += 1;
@@ -101,8 +119,10 @@ impl Counts {
             (Call::Append { .. }, Answer::Written(answer)) => {
                 self.append_faults[usize::from(answer.fault.min(6))] += 1;
             }
-            (_, Answer::Part(answer)) if answer.length > 0 => self.parts += 1,
-            (_, Answer::Part(_)) => self.empty_parts += 1,
+            (Call::EntryPart { .. }, Answer::Part(answer)) => match answer.length {
+                0 => self.empty_parts += 1,
+                _ => self.parts += 1,
+            },
             _ => {}
         }
     }
@@ -113,21 +133,20 @@ impl Counts {
         self.clocks_closing += u64::from(closed != 0);
     }
 
-    /// Counts an entry tried in a message, by whether it is well formed and whether only its bytes are missing.
-    pub fn count_tried(&mut self, sound: bool, bare: bool) {
-        self.tried += 1;
-        self.tried_faulty += u64::from(!sound);
-        self.tried_bare += u64::from(bare);
+    /// Counts an entry tried in a message, by whether it is well formed and has what it is tried for.
+    pub fn count_tried(&mut self, tries: Tries, sound: bool, spoiled: bool) {
+        let came = [true, !sound, spoiled].map(u64::from);
+        add_all(&mut self.tries[tries as usize], &came);
     }
 
-    /// Counts a delivery that closes if the message has an entry with a count and no bytes.
-    pub fn count_closure(&mut self, bare: bool) {
-        self.bare_closures += u64::from(bare);
+    /// Counts a delivery that closes if the message has such an entry.
+    pub fn count_closure(&mut self, tries: Tries, spoiled: bool) {
+        self.tries[tries as usize][3] += u64::from(spoiled);
     }
 
-    /// Counts a write that is refused by 11 if the entry has a count and no bytes.
-    pub fn count_unwritten(&mut self, bare: bool) {
-        self.bare_unwritten += u64::from(bare);
+    /// Counts a write that is refused by 11 if the entry is such a one.
+    pub fn count_unwritten(&mut self, tries: Tries, spoiled: bool) {
+        self.tries[tries as usize][4] += u64::from(spoiled);
     }
 
     fn count_beyond(&mut self, call: &Call, number: usize) {
@@ -205,12 +224,11 @@ impl Counts {
         self.beyond_refused += other.beyond_refused;
         self.clocks += other.clocks;
         self.clocks_closing += other.clocks_closing;
-        self.tried += other.tried;
-        self.tried_faulty += other.tried_faulty;
-        self.tried_bare += other.tried_bare;
-        self.bare_closures += other.bare_closures;
-        self.bare_unwritten += other.bare_unwritten;
+        for (mine, theirs) in self.tries.iter_mut().zip(&other.tries) {
+            add_all(mine, theirs);
+        }
         self.reset.add(&other.reset);
+        self.contexts.add(&other.contexts);
     }
 
     /// All calls made.
@@ -250,16 +268,17 @@ impl Counts {
             ));
             lines.push((format!("type {kind} read"), self.read_types[kind]));
         }
-        lines.extend(
-            self.single_lines()
-                .map(|(label, count)| (label.to_string(), count)),
-        );
+        lines.extend(self.single_lines());
+        for (name, counts) in TRIES.iter().zip(&self.tries) {
+            lines.extend(labelled(&format!("{name}: "), &TRIED, counts));
+        }
         lines.extend(self.reset.lines());
+        lines.extend(self.contexts.lines());
         lines
     }
 
-    fn single_lines(&self) -> impl Iterator<Item = (&'static str, u64)> {
-        [
+    fn single_lines(&self) -> impl Iterator<Item = (String, u64)> {
+        let lines = [
             ("delivery: more needed", self.more),
             ("delivery: replies", self.replies),
             ("closures by fault", self.closed_by_fault),
@@ -273,13 +292,10 @@ impl Counts {
             ("ticks whose sum does not fit 64 bits", self.beyond),
             ("lists of ticks held to one", self.clocks),
             ("lists of ticks that closed", self.clocks_closing),
-            ("entries tried by count and bytes", self.tried),
-            ("entries tried that are not well formed", self.tried_faulty),
-            ("entries tried with a count and no bytes", self.tried_bare),
-            ("closures by a count without bytes", self.bare_closures),
-            ("counts without bytes not written", self.bare_unwritten),
-        ]
-        .into_iter()
+        ];
+        lines
+            .into_iter()
+            .map(|(label, count)| (label.to_string(), count))
     }
 
     fn refused(&self, name: &str, number: u8) -> u64 {
@@ -340,7 +356,10 @@ impl Counts {
             ("types delivered", series(&self.delivered_types, 0)),
             ("types read", series(&self.read_types, 0)),
         ];
-        for (label, numbers) in rows.into_iter().chain(self.reset.rows()) {
+        let tries = TRIES.into_iter().zip(&self.tries);
+        let tried = tries.map(|(label, counts)| (label, named(&TRIED, counts)));
+        let rows = rows.into_iter().chain(self.reset.rows());
+        for (label, numbers) in rows.chain(self.contexts.rows()).chain(tried) {
             let _ = writeln!(text, "{label:<24}{numbers}");
         }
         self.write_rest(&mut text);
@@ -356,8 +375,6 @@ impl Counts {
              parts                   with bytes {}, empty {}\n\
              sums beyond 64 bits     tried {}, refused by 1: {}\n\
              lists of ticks          held to one tick {}, of them closing {}\n\
-             counts and bytes        tried {}, not well formed {}, count without bytes {}\n\
-             counts without bytes    closures {}, not written by 11: {}\n\
              calls in all            {}\n\
              kinds that have to come {}, the rarest {} times",
             self.more,
@@ -374,11 +391,6 @@ impl Counts {
             self.beyond_refused,
             self.clocks,
             self.clocks_closing,
-            self.tried,
-            self.tried_faulty,
-            self.tried_bare,
-            self.bare_closures,
-            self.bare_unwritten,
             self.total(),
             self.lines().len(),
             self.rarest()
@@ -423,6 +435,43 @@ pub fn decided(call: &Call) -> Vec<u8> {
     let n = usize::from(*n);
     let held = usize::from(record.held[n]);
     [&area[n * SHARE..n * SHARE + held], piece].concat()
+}
+
+/// Each count behind its label, which has this before it.
+pub fn labelled<'a>(
+    front: &'a str,
+    labels: &'a [&str],
+    counts: &'a [u64],
+) -> impl Iterator<Item = (String, u64)> + 'a {
+    let named = labels.iter().zip(counts);
+    named.map(move |(label, count)| (format!("{front}{label}"), *count))
+}
+
+/// Each count behind its label, in a row.
+pub fn named(labels: &[&str], counts: &[u64]) -> String {
+    let cells: Vec<String> = labelled("", labels, counts)
+        .map(|(label, count)| format!("{label}: {count}"))
+        .collect();
+    cells.join(", ")
+}
+
+/// The entries of a sound message at the front.
+pub fn entries(message: &[u8]) -> impl Iterator<Item = &[u8]> {
+    let size = message.get(3..7).map_or(0, number);
+    let mut rest = message.get(10..size + 1).unwrap_or_default();
+    std::iter::from_fn(move || {
+        let size = number(rest.get(..4)?);
+        let (entry, behind) = rest.split_at_checked(size.max(10))?;
+        rest = behind;
+        Some(entry)
+    })
+}
+
+/// The bytes as a number, most significant first.
+pub fn number(bytes: &[u8]) -> usize {
+    bytes
+        .iter()
+        .fold(0, |sum, byte| (sum << 8) | usize::from(*byte))
 }
 
 /// Adds each count to the one at its place.

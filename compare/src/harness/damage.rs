@@ -5,7 +5,7 @@
 use super::random::Random;
 use super::reset::KEYS;
 use super::traffic;
-use crate::record::{AREA, Mechanism, Record, SHARE};
+use crate::record::{AREA, CONTEXT, Mechanism, Record, SHARE};
 
 const FORMS: [u8; 5] = [0, 1, 2, 3, 255];
 const BEATS: [u64; 13] = [
@@ -29,6 +29,9 @@ const EMITTERS: [u32; 8] = [0, 1, 4_096, 4_097, 4_100, 4_104, 4_105, u32::MAX];
 const EVENTS: [u32; 5] = [0, 0x0001_0001, 0x0001_0002, 0x0002_0001, 1];
 const WORDS: [u32; 5] = [0, 1, 9, 0x0003_0001, u32::MAX];
 const MUTES: [u8; 5] = [0, 1, 2, 3, 255];
+const COUNTS: [u8; 9] = [0, 1, 3, 4, 63, 64, 65, 128, 255];
+/// Places within a context and past it, whatever its count.
+const PLACES: [usize; 7] = [0, 1, 3, 4, 31, 62, 63];
 const PORTS: [u16; 5] = [0, 1, 256, 65_001, 65_535];
 /// Multicast, not multicast, and none.
 const ADDRESSES: [[u8; 4]; 14] = [
@@ -173,8 +176,15 @@ fn subscription_changes(base: &Record, n: usize, changed: &mut Vec<Record>) {
         change(base, changed, |record| {
             record.device.subscriptions[n].method = value;
         });
+    }
+    for value in COUNTS {
         change(base, changed, |record| {
-            record.device.subscriptions[n].context = value;
+            record.device.subscriptions[n].context_count = value;
+        });
+    }
+    for (place, by) in PLACES.into_iter().zip([1, 128, 255].into_iter().cycle()) {
+        change(base, changed, |record| {
+            record.device.subscriptions[n].context[place] ^= by;
         });
     }
 }
@@ -227,7 +237,10 @@ pub fn twin(random: &mut Random, base: &Record) -> Record {
     let to = random.below(32);
     let mut copy = record.device.subscriptions[from];
     if copy.used && random.chance(50) {
-        copy.context = random.word();
+        let context = traffic::any_context(random);
+        copy.context = [0; CONTEXT];
+        copy.context[..context.len()].copy_from_slice(&context);
+        copy.context_count = context.len() as u8;
         copy.waiting = !copy.waiting;
     }
     record.device.subscriptions[to] = copy;

@@ -5,6 +5,7 @@ use super::call::{Answer, Call, Outcome};
 use super::random::Random;
 use super::reset;
 use super::session::{Checked, Session};
+use super::told::Told;
 use super::traffic;
 use crate::answer::{Delivered, Entry, Part};
 use crate::record::{AREA, Record};
@@ -49,25 +50,54 @@ impl<'s, 'e> Desk<'s, 'e> {
         Ok(())
     }
 
-    /// Reads an entry, and asks for its part: that is empty exactly where the
-    /// entry is refused or its count is the least (document 02 (v)).
-    pub fn ask_for(&mut self, bytes: &[u8], index: usize) -> Checked<(Entry, Part)> {
+    /// Reads an entry, and asks for its part and its context.
+    pub fn ask_for(&mut self, bytes: &[u8], index: usize) -> Checked<Told> {
         let bytes = bytes.to_vec();
-        let read = self.session.check(Call::ReadEntry {
+        let reading = Call::ReadEntry {
             bytes: bytes.clone(),
             index,
-        })?;
-        let call = Call::EntryPart { bytes, index };
-        let outcome = self.session.check(call.clone())?;
-        let (entry, part) = match (read.answer, outcome.answer) {
-            (Answer::Entry(entry), Answer::Part(part)) => (entry, part),
-            _ => Default::default(),
         };
+        let entry = match self.session.check(reading)?.answer {
+            Answer::Entry(entry) => entry,
+            _ => Entry::default(),
+        };
+        let part = self.part_of(&entry, bytes.clone(), index)?;
+        let context = self.context_of(&entry, bytes, index)?;
+        Ok(Told {
+            entry,
+            part,
+            context,
+        })
+    }
+
+    /// The part is empty exactly where the entry is refused or its count is the least (document 02 (v)).
+    fn part_of(&mut self, entry: &Entry, bytes: Vec<u8>, index: usize) -> Checked<Part> {
+        let call = Call::EntryPart { bytes, index };
+        let part = self.session.check(call.clone())?.answer.part();
         let bare = entry.number != 0 || entry.count == u8::from(entry.kind == 2);
         let kept = bare == (part.length == 0);
         self.session
             .demand(kept, "an entry's count and part do not agree", call)?;
-        Ok((entry, part))
+        Ok(part)
+    }
+
+    /// The context stands behind its count, and nowhere but in a notification (document 02 (i)).
+    fn context_of(&mut self, entry: &Entry, bytes: Vec<u8>, index: usize) -> Checked<Part> {
+        let call = Call::EntryContext {
+            bytes: bytes.clone(),
+            index,
+        };
+        let context = self.session.check(call.clone())?.answer.part();
+        let kept = if entry.number == 0 && entry.kind == 2 {
+            let count = entry.context_count;
+            let before = &bytes[..context.start.min(bytes.len())];
+            context.length == usize::from(count) && before.ends_with(&count.to_be_bytes())
+        } else {
+            entry.context_count == 0 && context == Part::default()
+        };
+        self.session
+            .demand(kept, "an entry's context and its count do not agree", call)?;
+        Ok(context)
     }
 
     /// Makes a call and goes on from its outcome, if it was done.
@@ -223,18 +253,19 @@ impl<'s, 'e> Desk<'s, 'e> {
         self.deliver(2, &traffic::message(0, &[set]))?;
         self.set_key(6, &reset::setting(&reset::KEYS[2], b"239.1.0.255", 65_001))?;
         self.tick(400)?;
-        let sample = traffic::message(1, &[traffic::command(9, 4, (3, 1), 5, &[0; 23])]);
+        let sample = traffic::message(1, &[traffic::command(9, 4, (3, 1), 5, &[0; 21])]);
         for (n, length) in [(0, 1), (1, 9), (2, 10), (5, 30), (7, sample.len() - 1)] {
             self.piece(n, &sample[..length])?;
         }
         Ok(())
     }
 
-    /// Adds so many subscriptions.
+    /// Adds so many subscriptions, up to 8, with contexts of as many lengths.
     pub fn subscribe(&mut self, n: u8, count: u32) -> Checked<()> {
-        for k in 0..count {
+        for (k, length) in (0..count).zip([4, 0, 64, 1, 63, 2, 16, 32]) {
             let name = traffic::naming(4_097 + k, 0x0001_0001, 9, 0x0003_0001);
-            let add = traffic::adding(&name, k, 1, [0, 0]);
+            let context: Vec<u8> = (1..=length).collect();
+            let add = traffic::adding(&name, &traffic::blob(&context), 1, [0, 0]);
             let entry = traffic::command(k, 4, (3, 1), 5, &add);
             self.deliver(n, &traffic::message(0, &[entry]))?;
         }

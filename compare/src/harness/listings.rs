@@ -28,9 +28,11 @@ pub enum Kind {
     Garbage,
     /// Sound messages, one with a count without bytes, and more.
     Miscounted,
+    /// Sound messages, one with a context above 64 or past its entry, and more.
+    Overlong,
 }
 
-pub const KINDS: [Kind; 9] = [
+pub const KINDS: [Kind; 10] = [
     Kind::Empty,
     Kind::Sound,
     Kind::Longest,
@@ -40,6 +42,7 @@ pub const KINDS: [Kind; 9] = [
     Kind::Truncated,
     Kind::Garbage,
     Kind::Miscounted,
+    Kind::Overlong,
 ];
 
 /// How it is handed to the program.
@@ -76,6 +79,7 @@ pub fn input(number: u64) -> Input {
         10..=13 => Kind::Truncated,
         14..=19 => Kind::Damaged,
         20 | 21 => Kind::Miscounted,
+        22 => Kind::Overlong,
         _ => Kind::Sound,
     };
     let (bytes, stop) = bytes_of(&mut random, kind);
@@ -123,7 +127,8 @@ fn bytes_of(random: &mut Random, kind: Kind) -> (Vec<u8>, Option<usize>) {
             }
             bytes
         }
-        Kind::Miscounted => return miscounted(random),
+        Kind::Miscounted => return spoiled_by(random, traffic::count_without_bytes),
+        Kind::Overlong => return spoiled_by(random, traffic::overlong_context),
     };
     (bytes, None)
 }
@@ -163,11 +168,11 @@ fn damaged(random: &mut Random) -> Vec<u8> {
     bytes
 }
 
-/// Sound messages, one with a count without bytes, and more bytes; and where that one begins.
-fn miscounted(random: &mut Random) -> (Vec<u8>, Option<usize>) {
+/// Sound messages, one that has fault 6, and more bytes; and where that one begins.
+fn spoiled_by(random: &mut Random, faulty: fn(&mut Random) -> Vec<u8>) -> (Vec<u8>, Option<usize>) {
     let mut bytes = messages(random, 4);
     let stop = bytes.len();
-    bytes.extend(traffic::count_without_bytes(random));
+    bytes.extend(faulty(random));
     match random.below(3) {
         0 => bytes.extend(random.bytes(30)),
         _ => bytes.extend(messages(random, 3)),

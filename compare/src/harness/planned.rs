@@ -1,6 +1,8 @@
 //! Calls that are gone through one by one instead of being left to chance.
 
+mod contexts;
 mod counts;
+mod entries;
 mod messages;
 mod reset;
 mod states;
@@ -16,7 +18,7 @@ const HALF: u32 = 1 << 31;
 
 type Plan = fn(&mut Desk<'_, '_>) -> Checked<()>;
 
-const PLANS: [Plan; 28] = [
+const PLANS: [Plan; 31] = [
     states::freshness,
     states::beyond_64_bits,
     states::full_table,
@@ -45,6 +47,9 @@ const PLANS: [Plan; 28] = [
     time::greatest_counts,
     time::slow_clocks,
     counts::counts,
+    contexts::notifications,
+    contexts::subscriptions,
+    contexts::records,
 ];
 
 /// Goes through all plans.

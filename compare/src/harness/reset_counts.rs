@@ -1,7 +1,7 @@
 //! What a run exercised of reset by key.
 
 use super::call::{Answer, Call, NAMES, Outcome};
-use super::counts::{add_all, decided};
+use super::counts::{GIVEN, add_all, decided, entries, labelled, named, number};
 use super::reset::{SENTINEL, asking};
 use crate::answer::Reset;
 use crate::record::{Mechanism, Record};
@@ -52,9 +52,6 @@ const RULES: [&str; 6] = [
     "with an address",
     "with a port",
 ];
-
-/// The calls that are given a record.
-const GIVEN: [&str; 6] = ["open", "close", "tick", "deliver", "take", "datagram"];
 
 /// Counts of all that came of reset by key.
 #[derive(Clone, Debug, Default)]
@@ -171,33 +168,15 @@ impl ResetCounts {
         let (resets, nothing) = self.datagrams.split_at(2);
         let (taken, refused) = self.settings.split_at(3);
         [
-            ("resets", told(&DATAGRAMS[..2], resets)),
-            ("resets that ended", told(&ENDED, &self.ended)),
-            ("datagrams for nothing", told(&DATAGRAMS[2..], nothing)),
-            ("3.14 with status 0", told(&SETTINGS[..3], taken)),
-            ("3.14 with another", told(&SETTINGS[3..], refused)),
-            ("mechanisms refused", told(&RULES, &broken)),
+            ("resets", named(&DATAGRAMS[..2], resets)),
+            ("resets that ended", named(&ENDED, &self.ended)),
+            ("datagrams for nothing", named(&DATAGRAMS[2..], nothing)),
+            ("3.14 with status 0", named(&SETTINGS[..3], taken)),
+            ("3.14 with another", named(&SETTINGS[3..], refused)),
+            ("mechanisms refused", named(&RULES, &broken)),
             ("calls done while armed", armed.to_string()),
         ]
     }
-}
-
-fn labelled<'a>(
-    front: &'a str,
-    labels: &'a [&str],
-    counts: &'a [u64],
-) -> impl Iterator<Item = (String, u64)> + 'a {
-    let named = labels.iter().zip(counts);
-    named.map(move |(label, count)| (format!("{front}{label}"), *count))
-}
-
-fn told(labels: &[&str], counts: &[u64]) -> String {
-    let cells: Vec<String> = labels
-        .iter()
-        .zip(counts)
-        .map(|(label, count)| format!("{label}: {count}"))
-        .collect();
-    cells.join(", ")
 }
 
 /// The datagram's place among the kinds; of several reasons the first.
@@ -216,7 +195,7 @@ fn datagram_kind(mechanism: &Mechanism, datagram: &[u8], reset: bool) -> usize {
 /// The setting's place among the kinds, by its count and parameters, its status and its object.
 fn setting_kind(counted: &[u8], status: u8, first: bool) -> Option<usize> {
     let (count, parameters) = (counted[0], &counted[1..]);
-    let length = 20 + parameters.get(16..18).map_or(0, four);
+    let length = 20 + parameters.get(16..18).map_or(0, number);
     match (first, status) {
         (true, 0) => Some(usize::from(length > 20)),
         (true, 4) if count != 2 => Some(3),
@@ -245,22 +224,4 @@ fn broken_rules(mechanism: &Mechanism) -> Vec<usize> {
         !armed && port != 0,
     ];
     (0..RULES.len()).filter(|rule| broken[*rule]).collect()
-}
-
-/// The entries of a sound message at the front.
-fn entries(message: &[u8]) -> impl Iterator<Item = &[u8]> {
-    let size = message.get(3..7).map_or(0, four);
-    let mut rest = message.get(10..size + 1).unwrap_or_default();
-    std::iter::from_fn(move || {
-        let size = four(rest.get(..4)?);
-        let (entry, behind) = rest.split_at_checked(size.max(10))?;
-        rest = behind;
-        Some(entry)
-    })
-}
-
-fn four(bytes: &[u8]) -> usize {
-    bytes
-        .iter()
-        .fold(0, |sum, byte| (sum << 8) | usize::from(*byte))
 }

@@ -13,6 +13,9 @@ const SUBSCRIBER_METHODS: [(u16, u16); 2] = [(3, 1), (3, 2)];
 const EVENT: (u16, u16) = (1, 1);
 /// The largest pduSize less the header.
 pub const LARGEST_DATA: usize = 2_039;
+/// Lengths of contexts, the most and the least among them.
+const CONTEXTS: [usize; 8] = [0, 1, 4, 4, 16, 32, 63, 64];
+const LONG_CONTEXTS: [usize; 7] = [65, 65, 66, 128, 255, 256, 300];
 
 /// A method or event in one number.
 pub fn joined(pair: (u16, u16)) -> u32 {
@@ -62,11 +65,22 @@ pub fn command(handle: u32, target: u32, method: (u16, u16), count: u8, rest: &[
     sized(&bytes)
 }
 
-/// A notification entry.
-pub fn notification(random: &mut Random, count: u8, rest: &[u8]) -> Vec<u8> {
+/// A context as it is sent: a 2-byte count, here any, and bytes.
+pub fn stated(count: u16, context: &[u8]) -> Vec<u8> {
+    [&count.to_be_bytes(), context].concat()
+}
+
+/// A context behind its own count.
+pub fn blob(context: &[u8]) -> Vec<u8> {
+    stated(context.len() as u16, context)
+}
+
+/// A notification entry, its context given behind a count.
+pub fn notification(random: &mut Random, count: u8, blob: &[u8], rest: &[u8]) -> Vec<u8> {
     let mut bytes = random.bytes(8);
     bytes.push(count);
-    bytes.extend(random.bytes(12));
+    bytes.extend(blob);
+    bytes.extend(random.bytes(8));
     bytes.extend(rest);
     sized(&bytes)
 }
@@ -87,10 +101,10 @@ pub fn naming(emitter: u32, event: u32, object: u32, method: u32) -> Vec<u8> {
         .collect()
 }
 
-/// The parameters of an add.
-pub fn adding(name: &[u8], context: u32, mode: u8, pair: [u8; 2]) -> Vec<u8> {
+/// The parameters of an add, its context given behind a count.
+pub fn adding(name: &[u8], blob: &[u8], mode: u8, pair: [u8; 2]) -> Vec<u8> {
     let mut bytes = name.to_vec();
-    bytes.extend(context.to_be_bytes());
+    bytes.extend(blob);
     bytes.push(mode);
     bytes.extend(pair);
     bytes
@@ -184,18 +198,47 @@ fn arguments(random: &mut Random, method: (u16, u16)) -> (u8, Vec<u8>) {
         }
         (3, 1) => {
             let name = any_name(random);
-            let context = random.word();
+            let context = any_blob(random);
             let mode = if random.chance(6) { random.byte() } else { 1 };
             let pair = if random.chance(4) {
                 random.pick(&[[0, 1], [1, 0], [255, 255], [0, 128]])
             } else {
                 [0, 0]
             };
-            (5, adding(&name, context, mode, pair))
+            (5, adding(&name, &context, mode, pair))
         }
         (3, 2) => (2, any_name(random)),
         (3, 14) => (2, reset::any_setting(random)),
         _ => (0, Vec::new()),
+    }
+}
+
+/// A context that is not too long.
+pub fn any_context(random: &mut Random) -> Vec<u8> {
+    let length = if random.chance(20) {
+        random.below(65)
+    } else {
+        random.pick(&CONTEXTS)
+    };
+    random.bytes(length)
+}
+
+fn long_context(random: &mut Random) -> Vec<u8> {
+    let length = random.pick(&LONG_CONTEXTS);
+    random.bytes(length)
+}
+
+/// A context behind its count, mostly such as 3.1 takes, now and then too long or with a count that lies.
+fn any_blob(random: &mut Random) -> Vec<u8> {
+    match random.weighted(&[86, 7, 7]) {
+        0 => blob(&any_context(random)),
+        1 => blob(&long_context(random)),
+        _ => {
+            let context = any_context(random);
+            let length = context.len() as u16;
+            let near = [length.wrapping_sub(1), length + 1, length + 256, 65, 64, 0];
+            stated(random.pick(&near), &context)
+        }
     }
 }
 
@@ -259,7 +302,8 @@ pub fn any_entry(random: &mut Random, kind: u8) -> Vec<u8> {
     match kind {
         2 => {
             let count = if rest.is_empty() { 1 } else { many.max(2) };
-            notification(random, count, &rest)
+            let context = blob(&any_context(random));
+            notification(random, count, &context, &rest)
         }
         3 => {
             let count = if rest.is_empty() { 0 } else { many };
@@ -272,7 +316,10 @@ pub fn any_entry(random: &mut Random, kind: u8) -> Vec<u8> {
 /// An entry of the type with this count and these bytes, well formed or not.
 fn entry_with(random: &mut Random, kind: u8, count: u8, rest: &[u8]) -> Vec<u8> {
     match kind {
-        2 => notification(random, count, rest),
+        2 => {
+            let context = blob(&any_context(random));
+            notification(random, count, &context, rest)
+        }
         3 => response(random, count, rest),
         _ => command(random.word(), random.pick(&MUTES), (4, 2), count, rest),
     }
@@ -294,6 +341,28 @@ fn bytes_without_count(random: &mut Random) -> Vec<u8> {
     let rest = random.bytes(length);
     let entry = entry_with(random, kind, u8::from(kind == 2), &rest);
     among_sound(random, kind, entry)
+}
+
+/// A notification whose context is above 64, or whose count runs past the entry.
+pub fn overlong(random: &mut Random) -> Vec<u8> {
+    let length = random.pick(&[0, 0, 1, 6]);
+    let rest = random.bytes(length);
+    let count = if rest.is_empty() { 1 } else { 2 };
+    let context = if random.chance(50) {
+        blob(&long_context(random))
+    } else {
+        let context = any_context(random);
+        // Emitter and event are 8 bytes that the count would reach into or past.
+        let past = context.len() + rest.len() + random.pick(&[1, 1, 7, 8, 9, 256, 60_000]);
+        stated(past as u16, &context)
+    };
+    notification(random, count, &context, &rest)
+}
+
+/// A message that such a notification spoils.
+pub fn overlong_context(random: &mut Random) -> Vec<u8> {
+    let entry = overlong(random);
+    among_sound(random, 2, entry)
 }
 
 /// A message of the entry, with up to two well-formed ones before it and behind it.
@@ -364,7 +433,7 @@ pub fn entries_of(random: &mut Random, kind: u8) -> Vec<u8> {
 pub fn of_size(random: &mut Random, kind: u8, size: u32) -> Vec<u8> {
     let data = size.saturating_sub(9) as usize;
     let least = match kind {
-        2 => 25,
+        2 => 23,
         3 => 10,
         _ => 17,
     };
@@ -372,10 +441,15 @@ pub fn of_size(random: &mut Random, kind: u8, size: u32) -> Vec<u8> {
         let data = random.bytes(data);
         return framed(1, size, kind, 1, &data);
     }
-    let rest = random.bytes(data - least);
+    let mut rest = random.bytes(data - least);
+    let mut context = any_context(random);
+    if kind == 2 {
+        context.truncate(rest.len());
+        rest.truncate(rest.len() - context.len());
+    }
     let count = if rest.is_empty() { 0 } else { 3 };
     let entry = match kind {
-        2 => notification(random, count.max(1), &rest),
+        2 => notification(random, count.max(1), &blob(&context), &rest),
         3 => response(random, count, &rest),
         _ => command(random.word(), random.pick(&MUTES), (4, 1), count, &rest),
     };
@@ -385,7 +459,7 @@ pub fn of_size(random: &mut Random, kind: u8, size: u32) -> Vec<u8> {
 /// A sound message made worse in one place, or sometimes left sound.
 pub fn any_damaged(random: &mut Random) -> Vec<u8> {
     let mut bytes = any_message(random);
-    match random.below(13) {
+    match random.below(14) {
         place @ 0..=4 => damage_header(random, &mut bytes, place),
         5 => {
             let last = bytes.len() - 1;
@@ -411,6 +485,7 @@ pub fn any_damaged(random: &mut Random) -> Vec<u8> {
         }
         10 => bytes = count_without_bytes(random),
         11 => bytes = bytes_without_count(random),
+        12 => bytes = overlong_context(random),
         _ => {
             let at = random.below(bytes.len());
             bytes[at] = random.byte();
@@ -440,7 +515,8 @@ fn damage_header(random: &mut Random, bytes: &mut Vec<u8>, place: usize) {
 pub fn samples() -> Vec<Vec<u8>> {
     let mut random = Random::new(70);
     let name = naming(4_098, joined(EVENT), 9, joined((3, 1)));
-    let add = command(1, 4, (3, 1), 5, &adding(&name, 0x0102_0304, 1, [0, 0]));
+    let context = blob(&[1, 2, 3, 4]);
+    let add = command(1, 4, (3, 1), 5, &adding(&name, &context, 1, [0, 0]));
     let remove = command(2, 4, (3, 2), 2, &name);
     let set = command(3, 4_097, (4, 2), 1, &[1]);
     let lock = command(7, 4_097, (1, 3), 0, &[]);
@@ -457,8 +533,12 @@ pub fn samples() -> Vec<Vec<u8>> {
                 response(&mut random, 1, &[0]),
             ],
         ),
-        message(2, &[notification(&mut random, 2, &[0, 4, 0, 1, 1, 1])]),
-        message(2, &[notification(&mut random, 1, &[])]),
+        message(
+            2,
+            &[notification(&mut random, 2, &context, &[0, 4, 0, 1, 1, 1])],
+        ),
+        message(2, &[notification(&mut random, 1, &context, &[])]),
+        message(2, &[notification(&mut random, 1, &blob(&[]), &[])]),
         message(1, std::slice::from_ref(&add)),
         message(1, &[set.clone(), remove]),
         message(0, &[set, add]),

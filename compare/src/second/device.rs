@@ -2,7 +2,8 @@
 
 use super::reader::Command;
 use super::reset;
-use crate::record::{Device, Subscription};
+use super::wire;
+use crate::record::{CONTEXT, Device, Subscription};
 
 /// Event 1.1.
 pub const EVENT: u32 = 0x0001_0001;
@@ -153,7 +154,7 @@ fn parameters_fit(method: Method, count: u8, parameters: &[u8]) -> bool {
     let length = parameters.len();
     match method {
         Method::Set => count == 1 && length == 1,
-        Method::Add => count == 5 && length == 23 && parameters[21..23] == [0, 0],
+        Method::Add => count == 5 && adding(parameters).is_some_and(|add| add.last == [0, 0]),
         Method::Remove => count == 2 && length == 16,
         Method::SetResetKey => count == 2 && reset::setting(parameters).is_some(),
         _ => count == 0 && length == 0,
@@ -177,7 +178,9 @@ fn wrong_emitter(method: Method, parameters: &[u8]) -> bool {
 
 fn wrong_value(method: Method, parameters: &[u8]) -> bool {
     match method {
-        Method::Add => parameters[20] != 1,
+        Method::Add => {
+            adding(parameters).is_none_or(|add| add.mode != 1 || add.context.len() > CONTEXT)
+        }
         Method::Set => parameters[0] != 1 && parameters[0] != 2,
         Method::SetResetKey => reset::armed_by(parameters).is_none(),
         _ => false,
@@ -212,12 +215,33 @@ fn named(n: u8, parameters: &[u8]) -> Subscription {
         event: four(parameters, 4),
         object: four(parameters, 8),
         method: four(parameters, 12),
-        context: 0,
+        ..Subscription::default()
     }
 }
 
+/// What 3.1 has behind the name.
+struct Adding<'a> {
+    context: &'a [u8],
+    mode: u8,
+    last: [u8; 2],
+}
+
+/// Cuts the parameters of 3.1 as the context's count says; none if their length is wrong.
+fn adding(parameters: &[u8]) -> Option<Adding<'_>> {
+    let (count, rest) = parameters.get(16..)?.split_at_checked(2)?;
+    let (context, rest) = rest.split_at_checked(usize::from(wire::short(count)))?;
+    let [mode, a, b] = *rest else {
+        return None;
+    };
+    Some(Adding {
+        context,
+        mode,
+        last: [a, b],
+    })
+}
+
 fn four(bytes: &[u8], at: usize) -> u32 {
-    super::wire::integer(&bytes[at..at + 4])
+    wire::integer(&bytes[at..at + 4])
 }
 
 fn free_entry(device: &Device) -> Option<usize> {
@@ -287,11 +311,13 @@ fn set(device: &mut Device, mute: usize, value: u8) {
 }
 
 fn add(device: &mut Device, n: u8, parameters: &[u8]) {
-    if let Some(free) = free_entry(device) {
-        device.subscriptions[free] = Subscription {
-            context: four(parameters, 16),
-            ..named(n, parameters)
-        };
+    if let Some(free) = free_entry(device)
+        && let Some(Adding { context, .. }) = adding(parameters)
+    {
+        let mut entry = named(n, parameters);
+        entry.context_count = context.len() as u8;
+        entry.context[..context.len()].copy_from_slice(context);
+        device.subscriptions[free] = entry;
     }
 }
 

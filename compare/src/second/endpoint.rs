@@ -275,7 +275,8 @@ fn notification(record: &Record, entry: &Subscription) -> Vec<u8> {
     rest.extend(entry.object.to_be_bytes());
     rest.extend(entry.method.to_be_bytes());
     rest.push(2);
-    rest.extend(entry.context.to_be_bytes());
+    rest.extend(u16::from(entry.context_count).to_be_bytes());
+    rest.extend(&entry.context[..usize::from(entry.context_count)]);
     rest.extend(entry.emitter.to_be_bytes());
     rest.extend(entry.event.to_be_bytes());
     rest.extend(PROPERTY);

@@ -30,7 +30,7 @@ pub struct Notification {
     pub level: u16,
     pub index: u16,
     pub count: u8,
-    pub context: u32,
+    pub context_count: u16,
     pub emitter: u32,
     pub event_level: u16,
     pub event_index: u16,
@@ -43,7 +43,7 @@ pub struct Response {
     pub count: u8,
 }
 
-/// One entry without its parameters, which come by a call of their own.
+/// One entry without its parameters and its context, which come by calls of their own.
 #[derive(Clone, Copy, Debug, PartialEq, Eq)]
 pub enum Entry {
     Command(Command),
@@ -86,8 +86,18 @@ pub fn read_entry(bytes: &[u8], index: usize) -> Result<Entry, Refusal> {
 pub fn entry_part(bytes: &[u8], index: usize) -> Option<Range<usize>> {
     let kind = read_message(bytes).ok()?.kind;
     let place = entry_place(bytes, index).ok()?;
-    let least = wire::least_entry(kind)?;
-    Some(place.start + least..place.end)
+    let start = wire::parameters_start(kind, &bytes[place.clone()])?;
+    Some(place.start + start..place.end)
+}
+
+/// Where a notification's context stands; nowhere if the entry is refused or is no notification.
+pub fn entry_context(bytes: &[u8], index: usize) -> Option<Range<usize>> {
+    if read_message(bytes).ok()?.kind != wire::NOTIFICATION {
+        return None;
+    }
+    let place = entry_place(bytes, index).ok()?;
+    let context = wire::context(&bytes[place.clone()])?;
+    Some(place.start + context.start..place.start + context.end)
 }
 
 fn entry_place(bytes: &[u8], index: usize) -> Result<Range<usize>, Refusal> {
@@ -126,15 +136,17 @@ pub fn command(bytes: &[u8]) -> Command {
 }
 
 fn notification(bytes: &[u8]) -> Notification {
+    let context_count = wire::short(&bytes[13..15]);
+    let (_, behind) = bytes[15..].split_at(usize::from(context_count));
     Notification {
         target: wire::integer(&bytes[4..8]),
         level: wire::short(&bytes[8..10]),
         index: wire::short(&bytes[10..12]),
         count: bytes[12],
-        context: wire::integer(&bytes[13..17]),
-        emitter: wire::integer(&bytes[17..21]),
-        event_level: wire::short(&bytes[21..23]),
-        event_index: wire::short(&bytes[23..25]),
+        context_count,
+        emitter: wire::integer(&behind[0..4]),
+        event_level: wire::short(&behind[4..6]),
+        event_index: wire::short(&behind[6..8]),
     }
 }
 

@@ -71,6 +71,13 @@ fn subscription(record: &Record, entry: &Subscription) -> bool {
     is_open(record, entry.connection)
         && device::mute_number(entry.emitter).is_some()
         && entry.event == EVENT
+        && context(entry)
+}
+
+/// A count of at most 64, and zeros past it.
+fn context(entry: &Subscription) -> bool {
+    let past = entry.context.get(usize::from(entry.context_count)..);
+    past.is_some_and(|past| past.iter().all(|byte| *byte == 0))
 }
 
 fn no_twins(entries: &[Subscription]) -> bool {

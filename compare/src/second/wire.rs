@@ -1,5 +1,8 @@
 //! The wire: integers, the header, the entries, and which byte decides.
 
+use crate::record::CONTEXT;
+use std::ops::Range;
+
 /// The byte every message begins with.
 pub const SYNC: u8 = 0x3B;
 /// The 3B and the 9 bytes of the header.
@@ -148,14 +151,23 @@ pub fn entries(kind: u8, count: u16, data: &[u8]) -> Option<Vec<&[u8]>> {
     rest.is_empty().then_some(found)
 }
 
-/// How long an entry of this type is without parameters.
-pub fn least_entry(kind: u8) -> Option<usize> {
-    match kind {
-        COMMAND | COMMAND_WANTING_REPLY => Some(17),
-        NOTIFICATION => Some(25),
-        RESPONSE => Some(10),
-        _ => None,
-    }
+/// Where the parameters of an entry of this type start; none if it ends before, or its context is wrong.
+pub fn parameters_start(kind: u8, bytes: &[u8]) -> Option<usize> {
+    let start = match kind {
+        COMMAND | COMMAND_WANTING_REPLY => 17,
+        // Emitter and event stand behind the context.
+        NOTIFICATION => context(bytes)?.end + 8,
+        RESPONSE => 10,
+        _ => return None,
+    };
+    (start <= bytes.len()).then_some(start)
+}
+
+/// Where the context of a notification stands; none if its count is above 64 or runs past the entry.
+pub fn context(bytes: &[u8]) -> Option<Range<usize>> {
+    let count = usize::from(short(bytes.get(13..15)?));
+    let place = 15..15 + count;
+    (count <= CONTEXT && place.end <= bytes.len()).then_some(place)
 }
 
 /// Where the parameter count of an entry of this type stands.
@@ -174,18 +186,15 @@ fn least_count(kind: u8) -> u8 {
 
 /// Whether the bytes are exactly one well-formed entry of this type.
 pub fn is_entry(kind: u8, bytes: &[u8]) -> bool {
-    let Some(least) = least_entry(kind) else {
+    let Some(start) = parameters_start(kind, bytes) else {
         return false;
     };
-    if bytes.len() < least {
-        return false;
-    }
     // Compared in 64 bits: the bytes may be longer than a size can say.
     if u64::from(integer(&bytes[0..4])) != bytes.len() as u64 {
         return false;
     }
     let count = bytes[count_place(kind)];
-    let bare = bytes.len() == least;
+    let bare = bytes.len() == start;
     if bare {
         count == least_count(kind)
     } else {

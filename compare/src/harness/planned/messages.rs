@@ -9,13 +9,13 @@ use crate::harness::traffic::{self, command, message};
 const ARGUMENTS: [(u8, usize); 10] = [
     (0, 0),
     (1, 1),
-    (5, 23),
+    (5, 25),
     (2, 16),
     (2, 20),
     (1, 2),
     (2, 1),
     (5, 1),
-    (5, 22),
+    (5, 24),
     (2, 17),
 ];
 /// Objects there are and are not.
@@ -72,6 +72,10 @@ fn offer(desk: &mut Desk<'_, '_>, bytes: &[u8]) -> Checked<()> {
         bytes: bytes.clone(),
         index: 0,
     })?;
+    desk.session.check(Call::EntryContext {
+        bytes: bytes.clone(),
+        index: 0,
+    })?;
     let mut buffer = desk.random.bytes(2_049);
     buffer[..bytes.len()].copy_from_slice(&bytes);
     let entry = traffic::any_entry(&mut desk.random, kind.min(3));
@@ -106,7 +110,7 @@ pub fn sizes(desk: &mut Desk<'_, '_>) -> Checked<()> {
     desk.open()?;
     for kind in 0..5 {
         for size in [
-            0, 8, 9, 10, 11, 12, 13, 14, 19, 26, 34, 2_047, 2_048, 2_049, 2_050,
+            0, 8, 9, 10, 11, 12, 13, 14, 19, 26, 32, 2_047, 2_048, 2_049, 2_050,
         ] {
             for _ in 0..3 {
                 let bytes = traffic::of_size(&mut desk.random, kind, size);
@@ -159,7 +163,7 @@ pub fn every_entry(desk: &mut Desk<'_, '_>) -> Checked<()> {
 
 /// The most entries that fit a message, and one of them broken.
 fn most_entries(desk: &mut Desk<'_, '_>, kind: u8) -> Checked<()> {
-    let least = traffic::of_size(&mut desk.random, kind, [26, 26, 34, 19][usize::from(kind)]);
+    let least = traffic::of_size(&mut desk.random, kind, [26, 26, 32, 19][usize::from(kind)]);
     let mut entries = vec![least[10..].to_vec(); traffic::LARGEST_DATA / (least.len() - 10)];
     let last = entries.len() - 1;
     for index in [0, 1, last / 2, last, last + 1] {
@@ -238,7 +242,7 @@ pub fn every_method(desk: &mut Desk<'_, '_>) -> Checked<()> {
 fn arguments_of(desk: &mut Desk<'_, '_>, level: u16, length: usize) -> Vec<u8> {
     let emitter = desk.random.pick(&[4_096, 4_097, 4_104, 4_105]);
     let name = traffic::naming(emitter, 0x0001_0001, 9, 0x0003_0001);
-    let mut bytes = traffic::adding(&name, 7, 1, [0, 0]);
+    let mut bytes = traffic::adding(&name, &traffic::blob(&[0, 0, 0, 7]), 1, [0, 0]);
     if level == 4 {
         bytes[0] = desk.random.pick(&[0, 1, 2, 3]);
     }

@@ -57,7 +57,14 @@ pub fn full_table(desk: &mut Desk<'_, '_>) -> Checked<()> {
             let object = 9 + desk.random.word() % 4;
             let name = traffic::naming(emitter, 0x0001_0001, object, 0x0003_0001);
             let entry = if method == (3, 1) {
-                command(1, 4, method, 5, &traffic::adding(&name, 1, 1, [0, 0]))
+                let context = traffic::blob(&traffic::any_context(&mut desk.random));
+                command(
+                    1,
+                    4,
+                    method,
+                    5,
+                    &traffic::adding(&name, &context, 1, [0, 0]),
+                )
             } else {
                 command(1, 4, method, 2, &name)
             };
