@@ -146,11 +146,11 @@ fn arming(n: u8, before: &Record, after: &Record) -> Option<Event> {
     (before.device.mechanism != is).then_some(Event::Armed { n, place })
 }
 
-/// An entry may be left and taken again within one message.
+/// An entry may be left and taken again within one message: another context tells that too, as no command changes it.
 fn subscription(n: u8, was: &Subscription, is: &Subscription) -> Vec<Event> {
-    let name = |entry: &Subscription| (entry.used, entry.emitter, entry.object, entry.method);
+    let waiting = is.waiting;
     let mut events = Vec::new();
-    if name(was) == name(is) {
+    if (Subscription { waiting, ..*was }) == *is {
         return events;
     }
     if was.used {
@@ -158,8 +158,11 @@ fn subscription(n: u8, was: &Subscription, is: &Subscription) -> Vec<Event> {
         events.push(Event::Unsubscribed { n, mute });
     }
     if is.used {
-        let mute = words::mute_of_object(is.emitter);
-        events.push(Event::Subscribed { n, mute });
+        events.push(Event::Subscribed {
+            n,
+            mute: words::mute_of_object(is.emitter),
+            context: is.context_count,
+        });
     }
     events
 }
@@ -218,9 +221,28 @@ mod tests {
             "connection 2 locked mute 5",
             "connection 2 muted mute 5",
             "connection 2 unsubscribed from mute 1",
-            "connection 2 subscribed to mute 5",
+            "connection 2 subscribed to mute 5; context of 0 bytes",
         ];
         assert_eq!(told(&heard(2, &before, &after)), lines);
+    }
+
+    /// Left and taken again in one message with another context; a mark alone is no change.
+    #[test]
+    fn another_context_is_another_subscription() {
+        let mut before = record();
+        before.device.subscriptions[0] = entry(4_101);
+        let mut after = before;
+        after.device.subscriptions[0].waiting = true;
+        assert!(heard(2, &before, &after).is_empty());
+        after.device.subscriptions[0].context_count = 1;
+        let lines = [
+            "connection 2 unsubscribed from mute 5",
+            "connection 2 subscribed to mute 5; context of 1 byte",
+        ];
+        assert_eq!(told(&heard(2, &before, &after)), lines);
+        let mut written = after;
+        written.device.subscriptions[0].context[0] = 7;
+        assert_eq!(told(&heard(2, &after, &written)), lines);
     }
 
     #[test]

@@ -34,6 +34,8 @@ pub enum Event {
     Subscribed {
         n: u8,
         mute: u8,
+        /// How many bytes its context has: what they say is the controller's own.
+        context: u8,
     },
     Unsubscribed {
         n: u8,
@@ -141,7 +143,7 @@ impl fmt::Display for Event {
             Event::Set { n, mute, value } => {
                 write!(f, "connection {n} {} mute {mute}", words::value(*value))
             }
-            Event::Subscribed { n, mute } => write!(f, "connection {n} subscribed to mute {mute}"),
+            Event::Subscribed { n, mute, context } => subscribed(f, *n, *mute, *context),
             Event::Unsubscribed { n, mute } => {
                 write!(f, "connection {n} unsubscribed from mute {mute}")
             }
@@ -163,6 +165,11 @@ impl fmt::Display for Event {
             }
         }
     }
+}
+
+fn subscribed(f: &mut fmt::Formatter, n: u8, mute: u8, context: u8) -> fmt::Result {
+    let context = words::context_count(usize::from(context));
+    write!(f, "connection {n} subscribed to mute {mute}; {context}")
 }
 
 impl fmt::Display for Beat {
@@ -244,6 +251,19 @@ mod tests {
     }
 
     #[test]
+    fn a_subscription_names_the_length_of_its_context() {
+        let subscribed = |context| Event::Subscribed {
+            n: 2,
+            mute: 5,
+            context,
+        };
+        let to = "connection 2 subscribed to mute 5; context of";
+        said(subscribed(0), &format!("{to} 0 bytes"));
+        said(subscribed(1), &format!("{to} 1 byte"));
+        said(subscribed(64), &format!("{to} 64 bytes"));
+    }
+
+    #[test]
     fn a_reset_says_what_it_ended() {
         let armed = |group: [u8; 4]| Event::Armed {
             n: 2,
@@ -314,7 +334,7 @@ mod tests {
         said(
             closed(Why::Fault(6), 0, &[5]),
             "closed connection 1: fault 6 (data that do not fit their type, \
-             or a count without bytes); mute 5 is free",
+             a count without bytes, or a context too long); mute 5 is free",
         );
         said(
             closed(Why::HungUp, 0, &[2, 8]),

@@ -4,6 +4,7 @@ use crate::amplifier::Refused;
 use crate::events::Beat;
 use crate::restart::Key;
 use crate::words;
+use compare::answer::Part;
 use compare::engine::Engine;
 use compare::harness::traffic;
 use compare::ours::Ours;
@@ -32,8 +33,14 @@ pub enum Asking {
     Mute,
     Unmute,
     Get,
-    Subscribe,
     Unsubscribe,
+}
+
+/// A subscription to a mute; a context that is too long is the amplifier's to judge.
+#[derive(Clone, Debug, PartialEq, Eq)]
+pub struct Subscribe {
+    pub mute: u8,
+    pub context: Vec<u8>,
 }
 
 /// What arms the reset mechanism.
@@ -56,6 +63,7 @@ pub enum Said {
     Notification {
         mute: u8,
         value: u8,
+        context: Vec<u8>,
     },
     KeepAlive(Beat),
     /// A command, which no amplifier sends.
@@ -78,13 +86,22 @@ pub fn command(handle: u32, asking: Asking, mute: u8) -> Result<Vec<u8>, Refused
         Asking::Get => (object, (4, 1), 0, Vec::new()),
         Asking::Mute => (object, (4, 2), 1, vec![1]),
         Asking::Unmute => (object, (4, 2), 1, vec![2]),
-        Asking::Subscribe => {
-            let adding = traffic::adding(&subscription(object), 0, 1, [0, 0]);
-            (SUBSCRIPTION_MANAGER, (3, 1), 5, adding)
-        }
         Asking::Unsubscribe => (SUBSCRIPTION_MANAGER, (3, 2), 2, subscription(object)),
     };
     message(&traffic::command(handle, target, method, count, &rest))
+}
+
+/// Method 3.1: the mute's event, this controller, the context and mode 1.
+pub fn subscribing(handle: u32, subscribe: &Subscribe) -> Result<Vec<u8>, Refused> {
+    let name = subscription(words::object_of_mute(subscribe.mute));
+    let adding = traffic::adding(&name, &traffic::blob(&subscribe.context), 1, [0, 0]);
+    message(&traffic::command(
+        handle,
+        SUBSCRIPTION_MANAGER,
+        (3, 1),
+        5,
+        &adding,
+    ))
 }
 
 /// A lock that announces one parameter and has no byte of it: the writer's lock with another parameter count, as it
@@ -157,13 +174,13 @@ pub fn read(bytes: &[u8]) -> Front {
 /// The first entry: this controller asks for one thing at a time.
 fn entry(kind: u8, bytes: &[u8]) -> Said {
     let entry = Ours.read_entry(bytes, 0);
-    let part = Ours.entry_part(bytes, 0);
-    let parameters = &bytes[part.start..part.start + part.length];
+    let parameters = part(bytes, Ours.entry_part(bytes, 0));
     match (kind, parameters) {
         // property 4.1, the value, 1
         (2, [0, 4, 0, 1, value, 1]) => Said::Notification {
             mute: words::mute_of_object(entry.emitter),
             value: *value,
+            context: part(bytes, Ours.entry_context(bytes, 0)).to_vec(),
         },
         (3, _) => Said::Reply {
             handle: entry.handle,
@@ -172,6 +189,10 @@ fn entry(kind: u8, bytes: &[u8]) -> Said {
         },
         _ => Said::Strange,
     }
+}
+
+fn part(bytes: &[u8], place: Part) -> &[u8] {
+    &bytes[place.start..place.start + place.length]
 }
 
 fn subscription(emitter: u32) -> Vec<u8> {
@@ -194,6 +215,7 @@ fn cut(
 #[cfg(test)]
 mod tests {
     use super::*;
+    use compare::record::CONTEXT;
 
     /// The scope paper's bench examples.
     #[test]
@@ -237,7 +259,7 @@ mod tests {
             (
                 2,
                 &[
-                    0, 0, 0, 9, 0, 3, 0, 1, 255, 1, 2, 3, 4, 0, 0, 0x10, 5, 0, 1, 0, 1,
+                    0, 0, 0, 9, 0, 3, 0, 1, 255, 0, 4, 1, 2, 3, 4, 0, 0, 0x10, 5, 0, 1, 0, 1,
                 ],
             ),
             (3, &[0, 0, 0, 7, 0, 255]),
@@ -297,13 +319,36 @@ mod tests {
         assert_eq!(read(&reply), Front::Message { length, said });
         assert_eq!(read(&reply[..length - 1]), Front::Part);
         assert_eq!(read(&[0]), Front::Fault(1));
+        // the scope paper's, with the context's count
         let notification = [
-            0x3B, 0, 1, 0, 0, 0, 0x28, 2, 0, 1, 0, 0, 0, 0x1F, 0, 0, 0, 9, 0, 3, 0, 1, 2, 1, 2, 3,
-            4, 0, 0, 0x10, 1, 0, 1, 0, 1, 0, 4, 0, 1, 1, 1,
+            0x3B, 0, 1, 0, 0, 0, 0x2A, 2, 0, 1, 0, 0, 0, 0x21, 0, 0, 0, 9, 0, 3, 0, 1, 2, 0, 4, 1,
+            2, 3, 4, 0, 0, 0x10, 1, 0, 1, 0, 1, 0, 4, 0, 1, 1, 1,
         ];
-        let said = Said::Notification { mute: 1, value: 1 };
+        let said = Said::Notification {
+            mute: 1,
+            value: 1,
+            context: vec![1, 2, 3, 4],
+        };
         let length = notification.len();
         assert_eq!(read(&notification), Front::Message { length, said });
+    }
+
+    /// 21 bytes and the context's, whatever its length.
+    #[test]
+    fn a_subscription_has_its_context() {
+        for count in [0, 4, CONTEXT, CONTEXT + 1] {
+            let context = vec![0xC7; count];
+            let bytes = subscribing(7, &Subscribe { mute: 5, context }).unwrap();
+            let size = 38 + count as u8;
+            let entry = [
+                &[0, 0, 0, size, 0, 0, 0, 7, 0, 0, 0, 4, 0, 3, 0, 1, 5][..],
+                &[0, 0, 0x10, 5, 0, 1, 0, 1, 0, 0, 0, 9, 0, 3, 0, 1],
+                &[0, count as u8],
+                &vec![0xC7; count],
+                &[1, 0, 0],
+            ];
+            assert_eq!(bytes[10..], entry.concat());
+        }
     }
 
     #[test]

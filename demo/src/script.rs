@@ -1,8 +1,9 @@
 //! The controller's small language: words, in arguments or lines.
 
 use crate::events::Beat;
-use crate::message::{Arm, Asking};
+use crate::message::{Arm, Asking, Subscribe};
 use crate::restart::{self, Restart};
+use compare::record::CONTEXT;
 use std::iter::Peekable;
 use std::time::Duration;
 
@@ -27,8 +28,10 @@ pub fn restarting(port: u16) -> String {
 
 pub const HELP: &str =
     "  lock N, unlock N, mute N, unmute N, get N, subscribe N, unsubscribe N   ask mute N, 1 to 8
+  subscribe N context HEX, subscribe N text WORD   with a context of up to 64 bytes, which each notification brings back
   await N      ask for the lock every second until it is given
   announce N   lock mute N, announcing one parameter without a byte of it: the amplifier closes the connection
+  overlong N   subscribe to mute N with a context of 65 bytes, one too many: the amplifier answers status 7
   beat S       set the heartbeat in seconds and keep alive; 'beat 200ms' in milliseconds; 0: no more
   arm KEY PORT [ADDRESS]       set the reset key, 32 hex digits, a UDP port and perhaps a multicast group
   restart KEY PORT [ADDRESS]   send the datagram that resets, by UDP to 127.0.0.1 or to the group
@@ -44,7 +47,9 @@ pub const HELP: &str =
 pub enum Command {
     Ask(Asking, u8),
     Await(u8),
+    Subscribe(Subscribe),
     Announce(u8),
+    Overlong(u8),
     Beat(Beat),
     Bytes(Vec<u8>),
     Arm(Arm),
@@ -77,12 +82,15 @@ where
         "dead" => return Ok(Command::Dead),
         "leave" => return Ok(Command::Leave),
         "quit" => return Ok(Command::Quit),
+        "subscribe" => return subscribe(words),
         "arm" => return arm(&keyed(words)).map_err(|wrong| format!("arm: {wrong}")),
         "restart" => return restart(&keyed(words)).map_err(|wrong| format!("restart: {wrong}")),
         _ => {}
     }
     let asking = asking(word);
-    let others = ["await", "announce", "beat", "bytes", "wait", "as"];
+    let others = [
+        "await", "announce", "overlong", "beat", "bytes", "wait", "as",
+    ];
     if asking.is_none() && !others.contains(&word) {
         return Err(format!("'{word}' is no command"));
     }
@@ -91,12 +99,55 @@ where
         (_, Some(asking)) => mute(argument).map(|mute| Command::Ask(asking, mute)),
         ("await", _) => mute(argument).map(Command::Await),
         ("announce", _) => mute(argument).map(Command::Announce),
+        ("overlong", _) => mute(argument).map(Command::Overlong),
         ("beat", _) => beat(argument).map(Command::Beat),
         ("bytes", _) => bytes(argument).map(Command::Bytes),
         ("wait", _) => wait(argument).map(Command::Wait),
         _ => (!argument.is_empty()).then(|| Command::As(argument.to_string())),
     };
     parsed.ok_or_else(|| format!("'{word} {argument}' is no command"))
+}
+
+/// A mute, and perhaps a context: no command is named as its two forms are.
+fn subscribe<'a, W>(words: &mut Peekable<W>) -> Result<Command, String>
+where
+    W: Iterator<Item = &'a str>,
+{
+    let argument = words.next().unwrap_or_default();
+    let Some(mute) = mute(argument) else {
+        return Err(format!("'subscribe {argument}' is no command"));
+    };
+    let context = match words.next_if(|word| ["context", "text"].contains(word)) {
+        Some(form) => context(form, words.next().unwrap_or_default()),
+        None => Ok(Vec::new()),
+    };
+    let context = context.map_err(|wrong| format!("subscribe {mute}: {wrong}"))?;
+    Ok(Command::Subscribe(Subscribe { mute, context }))
+}
+
+/// The bytes of a context in the form that is named: hex digits may be letters, so that a word does not tell its form.
+fn context(form: &str, text: &str) -> Result<Vec<u8>, String> {
+    let context = match (form, bytes(text)) {
+        ("text", _) if text.is_empty() => return Err("'text' takes a word".to_string()),
+        ("text", _) => text.as_bytes().to_vec(),
+        (_, Some(bytes)) => bytes,
+        (_, None) => return Err(not_hex(text)),
+    };
+    match context.len() {
+        length if length > CONTEXT => Err(format!(
+            "a context has at most {CONTEXT} bytes, and this has {length}; \
+             'overlong' sends one that is too long"
+        )),
+        _ => Ok(context),
+    }
+}
+
+fn not_hex(text: &str) -> String {
+    let takes = "'context' takes hex digits, two a byte";
+    match text.chars().find(|digit| !digit.is_ascii_hexdigit()) {
+        Some(other) => format!("{takes}, and '{other}' is none; 'text' takes a word as it is"),
+        None => format!("{takes}, and this has {} digits", text.len()),
+    }
 }
 
 /// The key, the port, and an address if there is one: it begins with a digit, as no command does.
@@ -132,7 +183,6 @@ fn asking(word: &str) -> Option<Asking> {
         "mute" => Asking::Mute,
         "unmute" => Asking::Unmute,
         "get" => Asking::Get,
-        "subscribe" => Asking::Subscribe,
         "unsubscribe" => Asking::Unsubscribe,
         _ => return None,
     })
@@ -219,6 +269,54 @@ mod tests {
     }
 
     #[test]
+    fn a_subscription_has_perhaps_a_context() {
+        let subscribe = |mute, context: &[u8]| {
+            let context = context.to_vec();
+            Command::Subscribe(Subscribe { mute, context })
+        };
+        let longest = "ab".repeat(64);
+        let text = format!(
+            "subscribe 5 lock 5 subscribe 6 context 01fF subscribe 7 text facade \
+             subscribe 8 context {longest} subscribe 1 text quit overlong 2 subscribe 3"
+        );
+        let expected = vec![
+            subscribe(5, &[]),
+            Command::Ask(Asking::Lock, 5),
+            subscribe(6, &[1, 0xFF]),
+            subscribe(7, b"facade"),
+            subscribe(8, &[0xAB; 64]),
+            subscribe(1, b"quit"),
+            Command::Overlong(2),
+            subscribe(3, &[]),
+        ];
+        assert_eq!(parse(&text), Ok(expected));
+    }
+
+    #[test]
+    fn a_context_that_is_none_is_told_so() {
+        let long = "ab".repeat(65);
+        let too_long = "a context has at most 64 bytes, and this has 65; \
+            'overlong' sends one that is too long";
+        let hex = "'context' takes hex digits, two a byte";
+        let none = |other| format!("{hex}, and '{other}' is none; 'text' takes a word as it is");
+        let digits = |count| format!("{hex}, and this has {count} digits");
+        for (words, wrong) in [
+            (format!("context {long}"), too_long.to_string()),
+            (format!("text {}", &long[..65]), too_long.to_string()),
+            ("context 010".to_string(), digits(3)),
+            (format!("context {}", &long[..127]), digits(127)),
+            ("context".to_string(), digits(0)),
+            ("context lock 5".to_string(), none('l')),
+            ("context 0x01".to_string(), none('x')),
+            ("context +1".to_string(), none('+')),
+            ("text".to_string(), "'text' takes a word".to_string()),
+        ] {
+            let refused = parse(&format!("subscribe 5 {words}"));
+            assert_eq!(refused, Err(format!("subscribe 5: {wrong}")));
+        }
+    }
+
+    #[test]
     fn the_restart_is_a_script() {
         let commands = parse(&restarting(5_000)).unwrap();
         let restarts = |command: &Command| matches!(command, Command::Restart(_));
@@ -247,6 +345,12 @@ mod tests {
             "announce 0",
             "announce 9",
             "announce lock",
+            "subscribe",
+            "subscribe 0",
+            "subscribe context 01",
+            "overlong",
+            "overlong 9",
+            "context 01",
             "beat",
             "beat -1",
             "beat 65536",

@@ -3,12 +3,13 @@
 use crate::amplifier::Refused;
 use crate::clock::Clock;
 use crate::events::Beat;
-use crate::message::{self, Arm, Asking, Said};
+use crate::message::{self, Arm, Asking, Said, Subscribe};
 use crate::restart::Restart;
 use crate::script::{self, Command};
 use crate::socket::{Heard, Socket, What};
 use crate::tablet::Tablet;
 use crate::words;
+use compare::record::CONTEXT;
 use std::fmt::Display;
 use std::io::{self, Write};
 use std::net::{SocketAddr, TcpStream};
@@ -102,7 +103,9 @@ impl<W: Write> Session<W> {
         match command {
             Command::Ask(asking, mute) => drop(self.ask(asking, mute)?),
             Command::Await(mute) => self.ask_again(mute)?,
+            Command::Subscribe(subscribe) => self.subscribe(&subscribe)?,
             Command::Announce(mute) => self.announce(mute)?,
+            Command::Overlong(mute) => self.overlong(mute)?,
             Command::Beat(beat) => self.beat(beat)?,
             Command::Bytes(bytes) => {
                 self.current()?;
@@ -153,11 +156,37 @@ impl<W: Write> Session<W> {
         Ok(status)
     }
 
+    fn subscribe(&mut self, subscribe: &Subscribe) -> io::Result<()> {
+        let Subscribe { mute, context } = subscribe;
+        let name = match words::hex(context) {
+            hex if hex.is_empty() => format!("subscribe {mute}"),
+            hex => format!("subscribe {mute} context {hex}"),
+        };
+        self.ask_plainly(&name, |handle| message::subscribing(handle, subscribe))
+    }
+
+    /// Sends a context that `subscribe` does not take; the writer builds it, since only the amplifier looks into a command.
+    fn overlong(&mut self, mute: u8) -> io::Result<()> {
+        let context = vec![0; CONTEXT + 1];
+        let name = format!("overlong {mute}: {}", words::context_count(context.len()));
+        let subscribe = Subscribe { mute, context };
+        self.ask_plainly(&name, |handle| message::subscribing(handle, &subscribe))
+    }
+
     /// Sets the reset key, which is not said.
     fn arm(&mut self, arm: &Arm) -> io::Result<()> {
         let name = format!("arm {} {}", arm.port, arm.address);
         let name = name.trim_end();
-        let (status, _) = self.exchange(name, |handle| message::arming(handle, arm))?;
+        self.ask_plainly(name, |handle| message::arming(handle, arm))
+    }
+
+    /// Sends a command whose reply has nothing but a status, and tells it.
+    fn ask_plainly(
+        &mut self,
+        name: &str,
+        command: impl Fn(u32) -> Result<Vec<u8>, Refused>,
+    ) -> io::Result<()> {
+        let (status, _) = self.exchange(name, command)?;
         let status = words::status(status);
         self.say(format_args!("{name}: {status}"))
     }
@@ -360,8 +389,13 @@ impl<W: Write> Session<W> {
             Said::Reply { .. } => return Ok(()),
             Said::KeepAlive(_) if self.tablets[k].answered() => return Ok(()),
             Said::KeepAlive(beat) => format!("the amplifier keeps alive, {beat}"),
-            Said::Notification { mute, value } => {
-                format!("notified: mute {mute} is {}", words::value(*value))
+            Said::Notification {
+                mute,
+                value,
+                context,
+            } => {
+                let (value, context) = (words::value(*value), words::context(context));
+                format!("notified: mute {mute} is {value}; {context}")
             }
             Said::Strange => "a message that no amplifier sends".to_string(),
         };

@@ -25,7 +25,9 @@ pub fn status(number: u8) -> String {
         4 => "wrong count or length",
         5 => "no such object",
         6 => "emitter not a mute, or event not 1.1",
-        7 => "mode not 1, mute not 1 or 2, or a text or port that 3.14 does not take",
+        7 => {
+            "mode not 1, context above 64 bytes, mute not 1 or 2, or a text or port that 3.14 does not take"
+        }
         8 => "not for a manager",
         9 => "not held, or held already",
         10 => "no free entry",
@@ -42,7 +44,7 @@ pub fn fault(number: u8) -> String {
         3 => "pduSize below 9 or above 2048",
         4 => "type above 4",
         5 => "messageCount 0, or not 1 for a keep-alive",
-        6 => "data that do not fit their type, or a count without bytes",
+        6 => "data that do not fit their type, a count without bytes, or a context too long",
         _ => "unknown",
     };
     format!("fault {number} ({words})")
@@ -124,6 +126,33 @@ pub fn group(address: Ipv4Addr) -> String {
     }
 }
 
+pub fn context_count(count: usize) -> String {
+    match count {
+        1 => "context of 1 byte".to_string(),
+        _ => format!("context of {count} bytes"),
+    }
+}
+
+/// A context in hex, and as text where there is nothing in it that a terminal would not print.
+pub fn context(bytes: &[u8]) -> String {
+    let count = context_count(bytes.len());
+    match (bytes, text(bytes)) {
+        ([], _) => count,
+        (_, Some(text)) => format!("{count}, {} \"{text}\"", hex(bytes)),
+        (_, None) => format!("{count}, {}", hex(bytes)),
+    }
+}
+
+pub fn hex(bytes: &[u8]) -> String {
+    bytes.iter().map(|byte| format!("{byte:02X}")).collect()
+}
+
+fn text(bytes: &[u8]) -> Option<&str> {
+    let printable = |letter: char| letter.is_alphanumeric() || (' '..='~').contains(&letter);
+    let text = std::str::from_utf8(bytes).ok()?;
+    text.chars().all(printable).then_some(text)
+}
+
 /// How many bytes were left without a decision; nothing for none.
 pub fn undecided(count: u16) -> String {
     match count {
@@ -176,7 +205,7 @@ mod tests {
         assert_eq!(fault(1), "fault 1 (first byte not 3B)");
         assert_eq!(
             fault(6),
-            "fault 6 (data that do not fit their type, or a count without bytes)"
+            "fault 6 (data that do not fit their type, a count without bytes, or a context too long)"
         );
         assert_eq!(refusal(5), "refusal 5 (TableFull)");
     }
@@ -186,6 +215,24 @@ mod tests {
         assert_eq!(beat(1, 2_000), "2 s");
         assert_eq!(beat(2, 2_000), "2000 ms");
         assert_eq!(beat(1, 65_535_000), "65535 s");
+    }
+
+    /// What a terminal would obey, or turn round, is told in hex alone.
+    #[test]
+    fn a_context_is_told_in_hex_and_as_text() {
+        for (bytes, told) in [
+            (&b""[..], "context of 0 bytes"),
+            (b"A", "context of 1 byte, 41 \"A\""),
+            (&[1, 2, 3, 4], "context of 4 bytes, 01020304"),
+            (b"foyer 2", "context of 7 bytes, 666F7965722032 \"foyer 2\""),
+            ("\u{FC}".as_bytes(), "context of 2 bytes, C3BC \"\u{FC}\""),
+            (b"\x1B[2J", "context of 4 bytes, 1B5B324A"),
+            ("\u{202E}".as_bytes(), "context of 3 bytes, E280AE"),
+            (b"a\n", "context of 2 bytes, 610A"),
+            (&[0xC3], "context of 1 byte, C3"),
+        ] {
+            assert_eq!(context(bytes), told);
+        }
     }
 
     #[test]

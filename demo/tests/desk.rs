@@ -1,13 +1,14 @@
 //! The amplifier over real sockets.
 
 mod announce;
+mod context;
 mod hall;
 mod reset;
 
 use compare::harness::traffic;
 use demo::script;
 use demo::session::{Next, Session};
-use hall::{Hall, Log, PATIENCE, Peer, get, lock, object, reply, set, subscribe};
+use hall::{Hall, Log, PATIENCE, Peer, get, lock, notified, object, reply, set, subscribe};
 use std::io::{BufRead, BufReader, Write};
 use std::process::{Command, Stdio};
 use std::thread;
@@ -203,16 +204,14 @@ fn a_subscriber_is_notified() {
     let hall = Hall::open();
     let mut panel = hall.connect(0);
     let mut tablet = hall.connect(1);
-    panel.ask(&subscribe(7, 1, 0x0102_0304), 0);
+    panel.ask(&subscribe(7, 1, &[1, 2, 3, 4]), 0);
     tablet.ask(&set(8, 1, 1), 0);
-    // the scope paper's example
-    let notification = |value| {
-        [
-            0x3B, 0, 1, 0, 0, 0, 0x28, 2, 0, 1, 0, 0, 0, 0x1F, 0, 0, 0, 9, 0, 3, 0, 1, 2, 1, 2, 3,
-            4, 0, 0, 0x10, 1, 0, 1, 0, 1, 0, 4, 0, 1, value, 1,
-        ]
-    };
-    panel.expect(&notification(1));
+    // the scope paper's example, with the context's count
+    panel.expect(&[
+        0x3B, 0, 1, 0, 0, 0, 0x2A, 2, 0, 1, 0, 0, 0, 0x21, 0, 0, 0, 9, 0, 3, 0, 1, 2, 0, 4, 1, 2,
+        3, 4, 0, 0, 0x10, 1, 0, 1, 0, 1, 0, 4, 0, 1, 1, 1,
+    ]);
+    let notification = |value| notified(1, value, &[1, 2, 3, 4]);
     // to the present value: no change; to another: one; of another mute: none
     tablet.ask(&set(9, 1, 1), 0);
     tablet.ask(&set(10, 2, 1), 0);
@@ -223,7 +222,7 @@ fn a_subscriber_is_notified() {
     panel.ask(&set(12, 1, 1), 0);
     panel.expect(&notification(1));
     let text = hall.end();
-    assert!(text.contains("connection 0 subscribed to mute 1"));
+    assert!(text.contains("connection 0 subscribed to mute 1; context of 4 bytes\n"));
     assert_eq!(text.matches("notified connection 0").count(), 3);
 }
 
@@ -318,14 +317,14 @@ fn the_controller_plays_the_question() {
     for words in [
         "panel: subscribe 5: status 0 (done)",
         "tablet: beat 300 ms: answered",
-        "panel: notified: mute 5 is muted",
+        "panel: notified: mute 5 is muted; context of 0 bytes",
         "technician: lock 5: status 3 (another connection holds it)",
         "tablet: the amplifier keeps alive, 300 ms",
         "tablet: closed by the amplifier",
         "technician: lock 5: status 0 (done)",
         "technician: let in after ",
         "technician: get 5: status 0 (done), unmuted",
-        "panel: notified: mute 5 is unmuted",
+        "panel: notified: mute 5 is unmuted; context of 0 bytes",
     ] {
         lines.line(words);
     }

@@ -1,54 +1,14 @@
 //! A count without bytes, over real sockets.
 
-use super::hall::{Hall, Log, PATIENCE, Peer, get, lock, reply};
+use super::hall::{Controller, FAULT, Hall, Peer, get, lock, reply};
 use super::program;
 use compare::harness::traffic;
-use demo::script;
-use demo::session::{Next, Session};
 use std::io::{Read, Write};
-use std::net::{Ipv4Addr, SocketAddr, TcpListener, TcpStream};
+use std::net::{Ipv4Addr, TcpListener, TcpStream};
 use std::thread;
-use std::time::Instant;
 
-const FAULT: &str = "fault 6 (data that do not fit their type, or a count without bytes)";
 const SENT: &str = "one parameter and no byte of it: the writer gives refusal 11 (BadEntry); \
     sends 27 bytes all the same";
-
-/// A controller that is told what to do, and the lines that it prints.
-struct Controller {
-    session: Session<Log>,
-    lines: Log,
-}
-
-impl Controller {
-    fn new(address: SocketAddr) -> Controller {
-        let lines = Log::default();
-        let session = Session::new(address, lines.clone());
-        Controller { session, lines }
-    }
-
-    fn obey(&mut self, text: &str) {
-        let next = self.session.obey(script::parse(text).unwrap()).unwrap();
-        assert_eq!(next, Next::More);
-    }
-
-    /// Listens until a line has these words.
-    fn hear(&mut self, words: &str) {
-        let start = Instant::now();
-        while !self.lines.has(words) {
-            assert!(start.elapsed() < PATIENCE, "{}", self.lines.text());
-            self.obey("wait 5");
-        }
-    }
-
-    /// The lines without their times, of this name alone.
-    fn said(&self, name: &str) -> Vec<String> {
-        let text = self.lines.text();
-        let said = text.lines().map(|line| line.split_once(" ms  ").unwrap().1);
-        let named = said.filter_map(|line| line.strip_prefix(&format!("{name}: ")));
-        named.map(str::to_string).collect()
-    }
-}
 
 /// Its own lock is freed; its mute, and whatever another has, stay; it may come again.
 #[test]
@@ -202,9 +162,9 @@ const KINDS: [Kind; 4] = [
     },
     // a notification, whose count is one more
     Kind {
-        without: "3B0001 00000022 02 0001 00000019 00000009 00030001 02 01020304 00001005 00010001",
-        with: "3B0001 00000023 02 0001 0000001A 00000009 00030001 02 01020304 00001005 00010001 01",
-        none: "3B0001 00000022 02 0001 00000019 00000009 00030001 01 01020304 00001005 00010001",
+        without: "3B0001 00000024 02 0001 0000001B 00000009 00030001 02 0004 01020304 00001005 00010001",
+        with: "3B0001 00000025 02 0001 0000001C 00000009 00030001 02 0004 01020304 00001005 00010001 01",
+        none: "3B0001 00000024 02 0001 0000001B 00000009 00030001 01 0004 01020304 00001005 00010001",
         freed: "mute 7 is free",
     },
     // a response

@@ -4,6 +4,8 @@ use compare::harness::traffic;
 use demo::clock::Clock;
 use demo::desk::Desk;
 use demo::restart::Key;
+use demo::script;
+use demo::session::{Next, Session};
 use std::io::{self, ErrorKind, Read, Write};
 use std::net::{Ipv4Addr, SocketAddr, TcpListener, TcpStream};
 use std::sync::atomic::{AtomicBool, Ordering};
@@ -13,6 +15,14 @@ use std::time::{Duration, Instant};
 
 /// Long enough where the processor is busy.
 pub const PATIENCE: Duration = Duration::from_secs(20);
+
+/// What a connection is closed for by an entry that is not well formed.
+pub const FAULT: &str =
+    "fault 6 (data that do not fit their type, a count without bytes, or a context too long)";
+
+/// What a context, a text or a port is answered that is not taken.
+pub const STATUS_7: &str = "status 7 (mode not 1, context above 64 bytes, mute not 1 or 2, \
+    or a text or port that 3.14 does not take)";
 
 /// What was printed so far.
 #[derive(Clone, Debug, Default)]
@@ -131,6 +141,43 @@ impl Hall {
     }
 }
 
+/// A controller that is told what to do, and the lines that it prints.
+#[derive(Debug)]
+pub struct Controller {
+    session: Session<Log>,
+    pub lines: Log,
+}
+
+impl Controller {
+    pub fn new(address: SocketAddr) -> Controller {
+        let lines = Log::default();
+        let session = Session::new(address, lines.clone());
+        Controller { session, lines }
+    }
+
+    pub fn obey(&mut self, text: &str) {
+        let next = self.session.obey(script::parse(text).unwrap()).unwrap();
+        assert_eq!(next, Next::More);
+    }
+
+    /// Listens until a line has these words.
+    pub fn hear(&mut self, words: &str) {
+        let start = Instant::now();
+        while !self.lines.has(words) {
+            assert!(start.elapsed() < PATIENCE, "{}", self.lines.text());
+            self.obey("wait 5");
+        }
+    }
+
+    /// The lines without their times, of this name alone.
+    pub fn said(&self, name: &str) -> Vec<String> {
+        let text = self.lines.text();
+        let said = text.lines().map(|line| line.split_once(" ms  ").unwrap().1);
+        let named = said.filter_map(|line| line.strip_prefix(&format!("{name}: ")));
+        named.map(str::to_string).collect()
+    }
+}
+
 #[derive(Debug)]
 pub struct Peer {
     pub stream: TcpStream,
@@ -215,8 +262,19 @@ pub fn arm(handle: u32, key: Key, text: &str, port: u16) -> Vec<u8> {
     traffic::command(handle, 1, (3, 14), 2, &rest)
 }
 
-pub fn subscribe(handle: u32, mute: u32, context: u32) -> Vec<u8> {
+pub fn subscribe(handle: u32, mute: u32, context: &[u8]) -> Vec<u8> {
     let name = traffic::naming(object(mute), 0x0001_0001, 9, 0x0003_0001);
-    let adding = traffic::adding(&name, context, 1, [0, 0]);
+    let adding = traffic::adding(&name, &traffic::blob(context), 1, [0, 0]);
     traffic::command(handle, 4, (3, 1), 5, &adding)
+}
+
+/// A notification message: mute 1 to 8 has this value, and the context of whoever subscribed.
+pub fn notified(mute: u8, value: u8, context: &[u8]) -> Vec<u8> {
+    let size = 29 + context.len() as u8;
+    let told = [
+        &[0, 0, 0, size, 0, 0, 0, 9, 0, 3, 0, 1, 2],
+        &traffic::blob(context)[..],
+        &[0, 0, 0x10, mute, 0, 1, 0, 1, 0, 4, 0, 1, value, 1],
+    ];
+    traffic::message(2, &[told.concat()])
 }

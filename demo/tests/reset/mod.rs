@@ -1,6 +1,8 @@
 //! Reset by key, over real sockets of the loopback address.
 
-use super::hall::{Hall, Log, PATIENCE, Peer, arm, get, lock, object, reply, set, subscribe};
+use super::hall::{
+    Hall, Log, PATIENCE, Peer, STATUS_7, arm, get, lock, object, reply, set, subscribe,
+};
 use super::program;
 use compare::harness::traffic;
 use demo::restart::{Key, Restart};
@@ -51,7 +53,7 @@ fn a_rack_that_hung_is_restarted() {
     peers[0].ask(&arm(1, KEY, "", port), 0);
     for (n, peer) in (1..).zip(&mut peers) {
         peer.ask(&set(2, n, 1), 0);
-        peer.ask(&subscribe(3, n, 0), 0);
+        peer.ask(&subscribe(3, n, &[]), 0);
         peer.ask(&lock(4, n), 0);
         peer.send(&traffic::message(1, &[lock(5, 1)])[..12]);
     }
@@ -304,11 +306,9 @@ fn the_controller_arms_in_words() {
     // the wrong key is seen by what is not closed; that takes its time
     let next = session.obey(script::parse(&typed).unwrap()).unwrap();
     assert_eq!(next, Next::Quit);
-    let refused =
-        "status 7 (mode not 1, mute not 1 or 2, or a text or port that 3.14 does not take)";
     for line in [
-        format!("tablet: arm {port} 10.0.0.1: {refused}"),
-        format!("tablet: arm 0: {refused}"),
+        format!("tablet: arm {port} 10.0.0.1: {STATUS_7}"),
+        format!("tablet: arm 0: {STATUS_7}"),
         format!("tablet: arm {port}: status 0 (done)"),
         "tablet: hangs up".to_string(),
         format!("panel: sends 24 bytes to 127.0.0.1:{port} by UDP, which answers nothing"),
