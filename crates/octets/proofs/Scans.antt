@@ -1,15 +1,15 @@
 -- Zeros, stored and looked for. Assumes nothing.
-use Prim.Native.Nat.{ℕ, zero, suc, _+_, _-_, _≤_, _<_}
+use Prim.Native.Nat.{ℕ, zero, suc, _+_, _-_, _*_, _/_, _≤_, _<_}
 use mathlib.Core.Path.{_≡_, refl, sym, ap, _∙_}
 use mathlib.Core.List.{List, [], _∷_, _++_}
 use mathlib.Core.Bool.{Bool, true, false, _&&_}
 use native.Mathlib.Omega.{arith}
 use native.Mathlib.Nat.{sub-zero, zero-sub, suc-sub-suc}
 use native.Mathlib.Numerals.{add-one}
-use lib.Dec.{eqb}
-use lib.ListN.{length, take, drop, getD, set, length-replicate, replicate-append-replicate}
-use lib.Seq.{take-suc, take-suc-set, take-all}
-use borrow.Author.Tests.{eqb-true, eq-eqb, ne-eqb}
+use lib.Dec.{ltb, eqb}
+use lib.ListN.{length, take, drop, getD, set, length-drop, length-replicate, replicate-append-replicate, List·getD-eq-default}
+use lib.Seq.{take-suc, take-suc-set, take-all, take-add, getD-drop}
+use borrow.Author.Tests.{ltb-true, ltb-false, eqb-true, eq-eqb, ne-eqb}
 use Rattle.laws.proofs.Conds.{and-left, and-right}
 use Rattle.octets.specs.Zeros.{zeros, allZero}
 
@@ -74,6 +74,64 @@ pub scan-more : (l : List ℕ) (i : ℕ) → i < length l → allZero (take (i +
 unfolding allZero
 scan-more l i h =
     rw (add-one, take-suc l i 0 h, all-zero-append) (ap (λ (b : Bool). allZero (take i l) && b) (and-true (eqb (getD l i 0) 0)))
+
+-- a scan of two halves side by side, one byte more of each
+both-more : (a b c d : Bool) → ((a && b) && (c && d)) ≡ ((a && c) && (b && d))
+both-more true true c d = refl
+both-more true false true d = refl
+both-more true false false d = refl
+both-more false b c d = refl
+
+module _ (l : List ℕ) (h : ℕ) where
+  halves-more : (i : ℕ) → h + i < length l → i < h → (b c : Bool) → b ≡ (allZero (take i l) && allZero (take i (drop h l)))
+      → c ≡ (eqb (getD l i 0) 0 && eqb (getD l (h + i) 0) 0) → (b && c) ≡ (allZero (take (i + 1) l) && allZero (take (i + 1) (drop h l)))
+  halves-more i k j b c p q =
+      let d = drop h l in
+      let low : i < length d = omega (arith, length-drop h l) in
+      let x : getD d i 0 ≡ getD l (h + i) 0 = getD-drop h l i 0 in
+      rw (p, q, scan-more l i (omega arith), scan-more d i low, x) (both-more (allZero (take i l)) (allZero (take i d)) (eqb (getD l i 0) 0) (eqb (getD l (h + i) 0) 0))
+
+  -- both halves, and the last byte of an odd number
+  halves-all : h + h ≤ length l → length l ≤ h + h + 1 → ((allZero (take h l) && allZero (take h (drop h l))) && eqb (getD l (h + h) 0) 0) ≡ allZero l
+  halves-all low high =
+      ap (λ (b : Bool). b && eqb (getD l (h + h) 0) 0) (sym (all-zero-append (take h l) (take h (drop h l))) ∙ ap allZero (sym (take-add h h l)))
+      ∙ ending (ltb (h + h) (length l)) refl
+    where
+      ending : (b : Bool) → ltb (h + h) (length l) ≡ b → (allZero (take (h + h) l) && eqb (getD l (h + h) 0) 0) ≡ allZero l
+      ending true e =
+          let k = ltb-true (h + h) (length l) e in
+          sym (scan-more l (h + h) k) ∙ ap allZero (take-all (h + h + 1) l (omega arith))
+      ending false e =
+          let k : length l ≤ h + h = ltb-false (h + h) (length l) e in
+          rw (List·getD-eq-default l 0 k, take-all (h + h) l k) (and-true (allZero l))
+
+-- the loop over both halves
+pub record Halving (l : List ℕ) (h i greatest : ℕ) : Type 0 where
+  pub low : h + h ≤ length l
+  pub high : length l ≤ h + h + 1
+  pub to : i ≤ h
+  pub is : eqb greatest 0 ≡ (allZero (take i l) && allZero (take i (drop h l)))
+
+module _ {l : List ℕ} {h : ℕ} where
+  pub halving-none : h ≡ length l / 2 → Halving l h 0 0
+  unfolding allZero
+  halving-none e = record { low = omega arith; high = omega arith; to = omega arith; is = refl }
+
+  module _ {i g : ℕ} (m : Halving l h i g) (x y : ℕ) where
+    pub halving-more : i < h → eqb x 0 ≡ (eqb (getD l i 0) 0 && eqb (getD l (h + i) 0) 0) → eqb y 0 ≡ (eqb g 0 && eqb x 0) → Halving l h (i + 1) y
+    halving-more k e f =
+        record {
+          low = m .low;
+          high = m .high;
+          to = omega arith;
+          is = f ∙ halves-more l h i (omega (arith, m .low)) k (eqb g 0) (eqb x 0) (m .is) e;
+        }
+
+    pub halving-all : h ≤ i → x ≡ getD l (2 * h) 0 → eqb y 0 ≡ (eqb g 0 && eqb x 0) → eqb y 0 ≡ allZero l
+    halving-all k e f =
+        let j : i ≡ h = omega (arith, m .to) in
+        let w : 2 * h ≡ h + h = omega arith in
+        f ∙ rw (m .is, e, j, w) (halves-all l h (m .low) (m .high))
 
 -- what allZero says: the bytes are zeros
 pub all-zero-zeros : (n : ℕ) → allZero (zeros n) ≡ true
