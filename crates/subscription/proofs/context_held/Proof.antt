@@ -1,3 +1,4 @@
+use denote.Ref.{now}
 use Rattle.subscription.proofs.Entries.{context-copied}
 use borrow.Author.Needs.{needs}
 use Rattle.subscription.proofs.context_held.Statement.{statement}
@@ -25,7 +26,9 @@ copy-requires : tie.Need-copy-requires
 copy-requires c κs = search needs
 
 returns : tie.Need-returns
-returns c = search (context-copied, needs)
+returns c =
+    let a = c .before .before .before .before .before .before in
+    context-copied (now (a .args .part)) _ _ (c .before .before .before .before .context-given .ensures .0) (a .pre .0) (a .pre .1) (c .before .copy .ensures)
 
 pub context-held-spec : {M : Type 1} → statement M
 context-held-spec =
