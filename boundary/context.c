@@ -4,10 +4,9 @@
 
 /* The parameters of a notification of a mute: property 4.1, the value, 1. */
 #define VALUE_BYTES 6u
-#define MUTED 1u
-#define UNMUTED 2u
 
-static const melorwyth_subscription panel = {.emitter = FIRST_MUTE, .event = CHANGED, .object = 9, .method = 0x00030001};
+static const melorwyth_subscription panel = {
+    .emitter = FIRST_MUTE, .event = CHANGED, .object = 9, .method = 0x00030001};
 static uint8_t area[MELORWYTH_AREA], output[MELORWYTH_OUTPUT], message[MELORWYTH_BUFFER];
 static uint8_t context[TOO_LONG]; /* none of its bytes is 0 */
 static const uint16_t far[] = {255, 256, 256 + 4, 256 + 64, 0x4000, 0x8000, 0xFFFF}; /* counts far from any length */
@@ -50,7 +49,7 @@ static void told(uint8_t n, const uint8_t *with, uint16_t count, uint8_t value)
     melorwyth_taken k = melorwyth_take(record, output, sizeof output);
     record = k.record;
     expect("taken", k.number, MELORWYTH_DONE);
-    expect("a notification", k.kind, MELORWYTH_NOTIFICATION);
+    expect("a notification", k.kind, MELORWYTH_TAKE_NOTIFICATION);
     expect("whose", k.connection, n);
     expect("its length", k.length, length);
     expect("its bytes", memcmp(output, bytes, length) == 0, 1);
@@ -60,10 +59,10 @@ static void told(uint8_t n, const uint8_t *with, uint16_t count, uint8_t value)
 static void read_as(const uint8_t *bytes, size_t length, int fits, uint16_t count, size_t parameters)
 {
     melorwyth_reading r = melorwyth_read_message(bytes, length);
-    expect("the message", r.number, fits ? MELORWYTH_DONE : MELORWYTH_FAULT);
+    expect("the message", r.number, fits ? MELORWYTH_DONE : MELORWYTH_REFUSAL_FAULT);
     expect("its fault", r.fault, fits ? 0 : MELORWYTH_FAULT_DATA);
     melorwyth_entry e = melorwyth_read_entry(bytes, length, 0);
-    expect("the entry", e.number, fits ? MELORWYTH_DONE : MELORWYTH_FAULT);
+    expect("the entry", e.number, fits ? MELORWYTH_DONE : MELORWYTH_REFUSAL_FAULT);
     expect("its fault", e.fault, fits ? 0 : MELORWYTH_FAULT_DATA);
     expect("its context's count", e.context_count, fits ? count : 0);
     melorwyth_part p = melorwyth_entry_context(bytes, length, 0);
@@ -79,7 +78,7 @@ static void delivered_as(const uint8_t *bytes, size_t length, int fits)
 {
     melorwyth_delivered d = melorwyth_deliver(record, area, sizeof area, 0, bytes, length, output, sizeof output);
     expect("delivered", d.number, MELORWYTH_DONE);
-    expect("its kind", d.kind, fits ? MELORWYTH_MESSAGE : MELORWYTH_CLOSED);
+    expect("its kind", d.kind, fits ? MELORWYTH_DELIVER_MESSAGE : MELORWYTH_DELIVER_CLOSED);
     expect("its fault", d.fault, fits ? 0 : MELORWYTH_FAULT_DATA);
     expect("all taken", d.taken, length);
     expect("no reply", d.length, 0);
@@ -91,14 +90,14 @@ static void written_as(const uint8_t *bytes, size_t length, int fits)
 {
     static uint8_t before[MELORWYTH_BUFFER];
     const uint8_t *entry = bytes + 10;
-    const unsigned number = fits ? MELORWYTH_DONE : MELORWYTH_BAD_ENTRY;
+    const unsigned number = fits ? MELORWYTH_DONE : MELORWYTH_REFUSAL_BAD_ENTRY;
     memset(message, 0xA5, sizeof message);
     memcpy(before, message, sizeof before);
     melorwyth_written w = melorwyth_start(message, sizeof message, MELORWYTH_TYPE_NOTIFICATION, entry, length - 10);
     expect("started", w.number, number);
     expect("its length", w.length, fits ? length : 0);
     expect("what was started", memcmp(message, fits ? bytes : before, length) == 0, 1);
-    size_t front = notified(message, &panel, context, 1, MUTED);
+    size_t front = notified(message, &panel, context, 1, MELORWYTH_MUTED);
     memcpy(before, message, sizeof before);
     w = melorwyth_append(message, sizeof message, MELORWYTH_TYPE_NOTIFICATION, entry, length - 10);
     expect("appended", w.number, number);
@@ -106,7 +105,7 @@ static void written_as(const uint8_t *bytes, size_t length, int fits)
     expect("what was appended", memcmp(message + front, fits ? entry : before + front, length - 10) == 0, 1);
     memcpy(message, bytes, length);
     w = melorwyth_append(message, sizeof message, MELORWYTH_TYPE_NOTIFICATION, before + 10, front - 10);
-    expect("appended to", w.number, fits ? MELORWYTH_DONE : MELORWYTH_FAULT);
+    expect("appended to", w.number, fits ? MELORWYTH_DONE : MELORWYTH_REFUSAL_FAULT);
     expect("its fault", w.fault, fits ? 0 : MELORWYTH_FAULT_DATA);
 }
 
@@ -114,7 +113,7 @@ static void written_as(const uint8_t *bytes, size_t length, int fits)
 static void miscounted(uint16_t given, uint16_t count)
 {
     uint8_t bytes[2 * (LEAST_NOTIFIED + TOO_LONG)];
-    size_t length = notified(bytes, &panel, context, given, MUTED);
+    size_t length = notified(bytes, &panel, context, given, MELORWYTH_MUTED);
     size_t left = given + VALUE_BYTES - count;
     int fits = count <= MELORWYTH_CONTEXT && count < given + VALUE_BYTES;
     put16(bytes + 23, count);
@@ -147,7 +146,7 @@ static void subscribed(uint16_t count)
     const melorwyth_record before = record;
     melorwyth_record wanted = record;
     melorwyth_subscription *s = &wanted.device.subscriptions[0];
-    const uint8_t muted = MUTED, unmuted = UNMUTED;
+    const uint8_t muted = MELORWYTH_MUTED, unmuted = MELORWYTH_UNMUTED;
     if (count > MELORWYTH_CONTEXT) {
         expect("added with too much", add(0, &panel, context, count), 7);
         same("added with too much", &record, &before);
@@ -219,11 +218,11 @@ static void twins(void)
         expect("with another context", add(0, &panel, other, count), 9);
     expect("7 before 9", add(0, &panel, other, TOO_LONG), 7);
     expect("of another connection", add(1, &panel, other, MELORWYTH_CONTEXT), 0);
-    const uint8_t muted = MUTED;
+    const uint8_t muted = MELORWYTH_MUTED;
     expect("a set", ask(0, FIRST_MUTE, SET, 1, &muted, 1), 0);
     told(0, context, 4, muted);
     told(1, other, MELORWYTH_CONTEXT, muted);
-    expect("nothing more", melorwyth_take(record, output, sizeof output).kind, MELORWYTH_NOTHING);
+    expect("nothing more", melorwyth_take(record, output, sizeof output).kind, MELORWYTH_TAKE_NOTHING);
 }
 
 /* With all entries used: 7, then 9, then 10. */
@@ -245,10 +244,10 @@ static void obeys(const char *what, int place, melorwyth_subscription s, int goo
     melorwyth_record r = record;
     r.device.subscriptions[place] = s;
     melorwyth_opened o = melorwyth_open(r);
-    expect(what, o.number, good ? MELORWYTH_DONE : MELORWYTH_BAD_RECORD);
+    expect(what, o.number, good ? MELORWYTH_DONE : MELORWYTH_REFUSAL_BAD_RECORD);
     if (!good)
         same(what, &o.record, &r);
-    expect(what, melorwyth_take(r, output, sizeof output).number, good ? MELORWYTH_DONE : MELORWYTH_BAD_RECORD);
+    expect(what, melorwyth_take(r, output, sizeof output).number, good ? MELORWYTH_DONE : MELORWYTH_REFUSAL_BAD_RECORD);
 }
 
 /* A count is at most 64, and bytes past it are zero. */

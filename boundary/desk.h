@@ -7,17 +7,16 @@
 
 #include "melorwyth.h"
 
-/* Methods: level times 65,536 plus index. */
-#define LOCK 0x00010003u
-#define SET 0x00040002u
-#define ADD 0x00030001u
-#define REMOVE 0x00030002u
-#define SET_RESET_KEY 0x0003000Eu
-#define DEVICE_MANAGER 1u
-#define SUBSCRIPTION_MANAGER 4u
-#define FIRST_MUTE 4097u
-/* Event 1.1, a property changed. */
-#define CHANGED 0x00010001u
+/* The header's names, short enough for a line. */
+#define LOCK MELORWYTH_METHOD_LOCK
+#define SET MELORWYTH_METHOD_SET
+#define ADD MELORWYTH_METHOD_ADD
+#define REMOVE MELORWYTH_METHOD_REMOVE
+#define SET_RESET_KEY MELORWYTH_METHOD_RESET_KEY
+#define DEVICE_MANAGER MELORWYTH_OBJECT_DEVICE_MANAGER
+#define SUBSCRIPTION_MANAGER MELORWYTH_OBJECT_SUBSCRIPTION_MANAGER
+#define FIRST_MUTE MELORWYTH_OBJECT_FIRST_MUTE
+#define CHANGED MELORWYTH_EVENT_CHANGE
 /* 3.1 without the context's bytes, and a message with one notification of a mute without them. */
 #define LEAST_ADD 21u
 #define LEAST_NOTIFIED 39u
@@ -178,7 +177,7 @@ static inline size_t notified(uint8_t bytes[LEAST_NOTIFIED + TOO_LONG], const me
     memcpy(bytes + 25, context, count);
     put32(behind, s->emitter);
     put32(behind + 4, s->event);
-    put32(behind + 8, 0x00040001u);
+    put32(behind + 8, MELORWYTH_PROPERTY_MUTE);
     behind[12] = value;
     behind[13] = 1;
     return LEAST_NOTIFIED + count;

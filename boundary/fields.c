@@ -62,31 +62,31 @@ static void refused_calls(void)
 {
     melorwyth_record r = filled();
     melorwyth_opened o = melorwyth_open(r);
-    expect("open refuses", o.number, MELORWYTH_BAD_RECORD);
+    expect("open refuses", o.number, MELORWYTH_REFUSAL_BAD_RECORD);
     expect("open names none", o.connection, 0);
     same("a refused open", &o.record, &r);
     melorwyth_closed c = melorwyth_close(r, area, sizeof area, 3);
-    expect("close refuses", c.number, MELORWYTH_BAD_RECORD);
+    expect("close refuses", c.number, MELORWYTH_REFUSAL_BAD_RECORD);
     same("a refused close", &c.record, &r);
     melorwyth_ticked t = melorwyth_tick(r, area, sizeof area, 77);
-    expect("tick refuses", t.number, MELORWYTH_BAD_RECORD);
+    expect("tick refuses", t.number, MELORWYTH_REFUSAL_BAD_RECORD);
     expect("tick closes none", t.closed, 0);
     same("a refused tick", &t.record, &r);
     melorwyth_delivered d = melorwyth_deliver(r, area, sizeof area, 3, message, 9, output, sizeof output);
-    expect("deliver refuses", d.number, MELORWYTH_BAD_RECORD);
+    expect("deliver refuses", d.number, MELORWYTH_REFUSAL_BAD_RECORD);
     expect("no kind", d.kind, 0);
     expect("no fault", d.fault, 0);
     expect("none taken", d.taken, 0);
     expect("no reply", d.length, 0);
     same("a refused delivery", &d.record, &r);
     melorwyth_taken k = melorwyth_take(r, output, sizeof output);
-    expect("take refuses", k.number, MELORWYTH_BAD_RECORD);
-    expect("nothing taken", k.kind, MELORWYTH_NOTHING);
+    expect("take refuses", k.number, MELORWYTH_REFUSAL_BAD_RECORD);
+    expect("nothing taken", k.kind, MELORWYTH_TAKE_NOTHING);
     expect("for nobody", k.connection, 0);
     expect("no length", k.length, 0);
     same("a refused take", &k.record, &r);
     melorwyth_reset z = melorwyth_datagram(r, area, sizeof area, message, MELORWYTH_DATAGRAM);
-    expect("datagram refuses", z.number, MELORWYTH_BAD_RECORD);
+    expect("datagram refuses", z.number, MELORWYTH_REFUSAL_BAD_RECORD);
     expect("no reset", z.reset, 0);
     same("a refused datagram", &z.record, &r);
 }
@@ -138,16 +138,16 @@ static void connections(void)
         wanted.device.connections[n].live = true;
         same("open", &record, &wanted);
         uint32_t beat = 0x01020304u + n;
-        size_t length = melorwyth_keep_alive(message, sizeof message, MELORWYTH_MILLISECONDS, beat).length;
+        size_t length = melorwyth_keep_alive(message, sizeof message, MELORWYTH_FORM_MILLISECONDS, beat).length;
         wanted.held[n] = n + 1;
-        deliver("the first bytes", n, message, n + 1u, MELORWYTH_MORE, 0);
+        deliver("the first bytes", n, message, n + 1u, MELORWYTH_DELIVER_MORE, 0);
         wanted.held[n] = 0;
-        wanted.device.connections[n].form = MELORWYTH_MILLISECONDS;
+        wanted.device.connections[n].form = MELORWYTH_FORM_MILLISECONDS;
         wanted.device.connections[n].beat = beat;
-        deliver("the rest of a keep-alive", n, message + n + 1, length - n - 1u, MELORWYTH_MESSAGE, length);
+        deliver("the rest of a keep-alive", n, message + n + 1, length - n - 1u, MELORWYTH_DELIVER_MESSAGE, length);
     }
     melorwyth_opened full = melorwyth_open(record);
-    expect("a ninth", full.number, MELORWYTH_TABLE_FULL);
+    expect("a ninth", full.number, MELORWYTH_REFUSAL_TABLE_FULL);
     same("a ninth", &full.record, &wanted);
 }
 
@@ -158,10 +158,10 @@ static void mutes(void)
     for (uint8_t i = 0; i < MELORWYTH_MUTES; i++) {
         size_t length = command(message, 5, FIRST_MUTE + i, LOCK, 0, NULL, 0);
         wanted.device.holders[i] = (uint8_t)(8 - i);
-        deliver("a lock", 7 - i, message, length, MELORWYTH_MESSAGE, 20);
+        deliver("a lock", 7 - i, message, length, MELORWYTH_DELIVER_MESSAGE, 20);
         length = command(message, 6, FIRST_MUTE + i, SET, 1, &muted, 1);
         wanted.device.mutes[i] = muted;
-        deliver("a set", 7 - i, message, length, MELORWYTH_MESSAGE, 20);
+        deliver("a set", 7 - i, message, length, MELORWYTH_DELIVER_MESSAGE, 20);
     }
 }
 
@@ -183,7 +183,7 @@ static void subscriptions(void)
             s->context[k] = (uint8_t)next();
         size_t length = adding(parameters, s, s->context, s->context_count);
         length = command(message, 7, SUBSCRIPTION_MANAGER, ADD, 5, parameters, length);
-        deliver("a subscription", s->connection, message, length, MELORWYTH_MESSAGE, 20);
+        deliver("a subscription", s->connection, message, length, MELORWYTH_DELIVER_MESSAGE, 20);
     }
 }
 
@@ -195,7 +195,7 @@ static void marks(void)
         wanted.device.subscriptions[i].waiting = i % 7 == 2;
     wanted.device.mutes[2] = unmuted;
     size_t length = command(message, 8, FIRST_MUTE + 2, SET, 1, &unmuted, 1);
-    deliver("a set that marks", 5, message, length, MELORWYTH_MESSAGE, 20);
+    deliver("a set that marks", 5, message, length, MELORWYTH_DELIVER_MESSAGE, 20);
     for (uint8_t i = 2; i < MELORWYTH_SUBSCRIPTIONS; i += 7) {
         melorwyth_subscription *s = &wanted.device.subscriptions[i];
         uint8_t told[LEAST_NOTIFIED + TOO_LONG];
@@ -203,7 +203,7 @@ static void marks(void)
         melorwyth_taken k = melorwyth_take(record, output, sizeof output);
         record = k.record;
         expect("taken", k.number, MELORWYTH_DONE);
-        expect("a notification", k.kind, MELORWYTH_NOTIFICATION);
+        expect("a notification", k.kind, MELORWYTH_TAKE_NOTIFICATION);
         expect("whose", k.connection, i % MELORWYTH_CONNECTIONS);
         expect("its length", k.length, length);
         expect("its bytes", memcmp(output, told, length) == 0, 1);
@@ -216,10 +216,10 @@ static void marks(void)
 static void supervision(void)
 {
     const uint32_t start = record.device.reading;
-    size_t length = melorwyth_keep_alive(message, sizeof message, MELORWYTH_SECONDS, 2).length;
-    wanted.device.connections[6].form = MELORWYTH_SECONDS;
+    size_t length = melorwyth_keep_alive(message, sizeof message, MELORWYTH_FORM_SECONDS, 2).length;
+    wanted.device.connections[6].form = MELORWYTH_FORM_SECONDS;
     wanted.device.connections[6].beat = 2000;
-    deliver("seconds", 6, message, length, MELORWYTH_MESSAGE, length);
+    deliver("seconds", 6, message, length, MELORWYTH_DELIVER_MESSAGE, length);
     for (int n = 0; n < MELORWYTH_CONNECTIONS; n++)
         wanted.device.connections[n].silence = wanted.device.connections[n].quiet = 1999;
     tick("one less than H", start + 1999, 0);
@@ -230,7 +230,7 @@ static void supervision(void)
     tick("H", start + 2000, 0);
     melorwyth_taken k = melorwyth_take(record, output, sizeof output);
     record = k.record;
-    expect("a keep-alive", k.kind, MELORWYTH_KEEP_ALIVE);
+    expect("a keep-alive", k.kind, MELORWYTH_TAKE_KEEP_ALIVE);
     expect("for connection", k.connection, 6);
     expect("of length", k.length, 12);
     wanted.device.connections[6].due = false;
@@ -252,7 +252,7 @@ static void mechanism(void)
     m->port = 0xABCD;
     size_t length = arming(parameters, m->key, "239.1.20.103", m->port);
     length = command(message, 9, DEVICE_MANAGER, SET_RESET_KEY, 2, parameters, length);
-    deliver("a reset key", 5, message, length, MELORWYTH_MESSAGE, 20);
+    deliver("a reset key", 5, message, length, MELORWYTH_DELIVER_MESSAGE, 20);
 }
 
 /* What is wanted once connection n is closed. */
@@ -294,7 +294,7 @@ static void closures(void)
         melorwyth_delivered d = melorwyth_deliver(record, area, sizeof area, n, faulty[n], 12, output, sizeof output);
         record = d.record;
         expect("closed", d.number, MELORWYTH_DONE);
-        expect("kind", d.kind, MELORWYTH_CLOSED);
+        expect("kind", d.kind, MELORWYTH_DELIVER_CLOSED);
         expect("fault", d.fault, n + 1u);
         expect("taken", d.taken, deciding[n]);
         expect("no reply", d.length, 0);
@@ -396,9 +396,9 @@ static void counted(uint8_t kind, uint8_t count, uint8_t bytes)
     whole[13] = (uint8_t)(least[kind] + bytes);
     whole[10 + place[kind]] = count;
     melorwyth_written w = melorwyth_start(message, sizeof message, kind, whole + 10, length - 10);
-    expect("started", w.number, fits ? MELORWYTH_DONE : MELORWYTH_BAD_ENTRY);
+    expect("started", w.number, fits ? MELORWYTH_DONE : MELORWYTH_REFUSAL_BAD_ENTRY);
     melorwyth_entry e = melorwyth_read_entry(whole, length, 0);
-    expect("read", e.number, fits ? MELORWYTH_DONE : MELORWYTH_FAULT);
+    expect("read", e.number, fits ? MELORWYTH_DONE : MELORWYTH_REFUSAL_FAULT);
     expect("its fault", e.fault, fits ? 0 : MELORWYTH_FAULT_DATA);
     expect("its count", e.count, fits ? count : 0);
     expect("its part", melorwyth_entry_part(whole, length, 0).length, fits ? bytes : 0);
@@ -406,7 +406,7 @@ static void counted(uint8_t kind, uint8_t count, uint8_t bytes)
     melorwyth_delivered d =
         melorwyth_deliver(o.record, area, sizeof area, o.connection, whole, length, output, sizeof output);
     expect("delivered", d.number, MELORWYTH_DONE);
-    expect("its kind", d.kind, fits ? MELORWYTH_MESSAGE : MELORWYTH_CLOSED);
+    expect("its kind", d.kind, fits ? MELORWYTH_DELIVER_MESSAGE : MELORWYTH_DELIVER_CLOSED);
     expect("its fault", d.fault, fits ? 0 : MELORWYTH_FAULT_DATA);
     expect("still open", d.record.device.connections[o.connection].live, fits);
 }
@@ -434,26 +434,27 @@ static void refusals(void)
     expect("count", e.count, 13);
     no_context("no such context", length, 1);
     no_context("a short message's context", length - 1, 0);
-    expect("no such entry", melorwyth_read_entry(message, length, 1).number, MELORWYTH_NO_ENTRY);
+    expect("no such entry", melorwyth_read_entry(message, length, 1).number, MELORWYTH_REFUSAL_NO_ENTRY);
     expect("no such part", melorwyth_entry_part(message, length, 1).start, 0);
-    expect("short", melorwyth_read_message(message, length - 1).number, MELORWYTH_SHORT);
-    expect("a large value", melorwyth_keep_alive(message, sizeof message, 1, 65536).number, MELORWYTH_BAD_ENTRY);
-    expect("a small buffer", melorwyth_keep_alive(message, 2048, 1, 1).number, MELORWYTH_NO_ROOM);
-    length = melorwyth_keep_alive(message, sizeof message, MELORWYTH_MILLISECONDS, 0x01020304).length;
+    expect("short", melorwyth_read_message(message, length - 1).number, MELORWYTH_REFUSAL_SHORT);
+    expect("a large value", melorwyth_keep_alive(message, sizeof message, 1, 65536).number,
+           MELORWYTH_REFUSAL_BAD_ENTRY);
+    expect("a small buffer", melorwyth_keep_alive(message, 2048, 1, 1).number, MELORWYTH_REFUSAL_NO_ROOM);
+    length = melorwyth_keep_alive(message, sizeof message, MELORWYTH_FORM_MILLISECONDS, 0x01020304).length;
     melorwyth_reading r = melorwyth_read_message(message, length);
-    expect("form", r.form, MELORWYTH_MILLISECONDS);
+    expect("form", r.form, MELORWYTH_FORM_MILLISECONDS);
     expect("value", r.value, 0x01020304);
     no_context("a keep-alive's context", length, 0);
     message[7] = 5;
     no_context("a faulty message's context", length, 0);
     r = melorwyth_read_message(message, length);
-    expect("a fault", r.number, MELORWYTH_FAULT);
+    expect("a fault", r.number, MELORWYTH_REFUSAL_FAULT);
     expect("which", r.fault, MELORWYTH_FAULT_TYPE);
     expect("which, of an entry", melorwyth_read_entry(message, length, 0).fault, MELORWYTH_FAULT_TYPE);
     melorwyth_written w = melorwyth_append(message, sizeof message, 0, output, 17);
-    expect("append to it", w.number, MELORWYTH_FAULT);
+    expect("append to it", w.number, MELORWYTH_REFUSAL_FAULT);
     expect("which", w.fault, MELORWYTH_FAULT_TYPE);
-    expect("an area too short", melorwyth_clear(area, sizeof area - 1).number, MELORWYTH_BAD_AREA);
+    expect("an area too short", melorwyth_clear(area, sizeof area - 1).number, MELORWYTH_REFUSAL_BAD_AREA);
 }
 
 int main(void)

@@ -128,11 +128,11 @@ static void bad_record(const char *what, melorwyth_mechanism mechanism)
     melorwyth_record r = record;
     r.device.mechanism = mechanism;
     melorwyth_reset z = melorwyth_datagram(r, area, sizeof area, bytes, sizeof bytes);
-    expect(what, z.number, MELORWYTH_BAD_RECORD);
+    expect(what, z.number, MELORWYTH_REFUSAL_BAD_RECORD);
     expect(what, z.reset, 0);
     same(what, &z.record, &r);
-    expect(what, melorwyth_open(r).number, MELORWYTH_BAD_RECORD);
-    expect("1 before 2", melorwyth_datagram(r, area, 0, bytes, sizeof bytes).number, MELORWYTH_BAD_RECORD);
+    expect(what, melorwyth_open(r).number, MELORWYTH_REFUSAL_BAD_RECORD);
+    expect("1 before 2", melorwyth_datagram(r, area, 0, bytes, sizeof bytes).number, MELORWYTH_REFUSAL_BAD_RECORD);
 }
 
 static void refusals(void)
@@ -172,13 +172,13 @@ static void bad_area(void)
     datagram_of(bytes, key);
     for (size_t i = 0; i < sizeof lengths / sizeof *lengths; i++) {
         melorwyth_reset z = melorwyth_datagram(record, area, lengths[i], bytes, sizeof bytes);
-        expect("another length of the area", z.number, MELORWYTH_BAD_AREA);
+        expect("another length of the area", z.number, MELORWYTH_REFUSAL_BAD_AREA);
         expect("no reset", z.reset, 0);
         same("another length of the area", &z.record, &record);
     }
     area[MELORWYTH_AREA - 1] = 1;
     melorwyth_reset z = melorwyth_datagram(record, area, sizeof area, bytes, sizeof bytes);
-    expect("a byte too many", z.number, MELORWYTH_BAD_AREA);
+    expect("a byte too many", z.number, MELORWYTH_REFUSAL_BAD_AREA);
     expect("no reset", z.reset, 0);
     same("a byte too many", &z.record, &record);
     expect("which stays", area[MELORWYTH_AREA - 1], 1);

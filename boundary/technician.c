@@ -2,7 +2,7 @@
    with a heartbeat of 30 s and falls silent. When is the next one let in? */
 #include "desk.h"
 
-#define CHANNEL_5 (FIRST_MUTE + 4)
+#define CHANNEL_5 MELORWYTH_OBJECT_CHANNEL(5)
 #define START 4294950000u /* the counter goes round while the tablet is silent */
 
 static uint8_t area[MELORWYTH_AREA], output[MELORWYTH_OUTPUT], message[MELORWYTH_BUFFER];
@@ -32,7 +32,7 @@ static melorwyth_delivered delivered(uint8_t n, size_t length)
 static unsigned lock(uint8_t n, uint32_t handle)
 {
     melorwyth_delivered d = delivered(n, command(message, handle, CHANNEL_5, LOCK, 0, NULL, 0));
-    expect("a whole message", d.kind, MELORWYTH_MESSAGE);
+    expect("a whole message", d.kind, MELORWYTH_DELIVER_MESSAGE);
     melorwyth_entry e = melorwyth_read_entry(output, d.length, 0);
     expect("a reply", e.number, MELORWYTH_DONE);
     expect("a response", e.kind, MELORWYTH_TYPE_RESPONSE);
@@ -50,9 +50,9 @@ static unsigned at(uint32_t milliseconds)
         melorwyth_taken k = melorwyth_take(record, output, sizeof output);
         record = k.record;
         expect("take", k.number, MELORWYTH_DONE);
-        if (k.kind == MELORWYTH_NOTHING)
+        if (k.kind == MELORWYTH_TAKE_NOTHING)
             return t.closed;
-        expect("a keep-alive", k.kind, MELORWYTH_KEEP_ALIVE);
+        expect("a keep-alive", k.kind, MELORWYTH_TAKE_KEEP_ALIVE);
         heartbeats++;
     }
 }
@@ -70,7 +70,7 @@ int main(void)
     uint8_t tablet = opened("the tablet");
     uint8_t technician = opened("the technician");
 
-    melorwyth_written w = melorwyth_keep_alive(message, sizeof message, MELORWYTH_SECONDS, 30);
+    melorwyth_written w = melorwyth_keep_alive(message, sizeof message, MELORWYTH_FORM_SECONDS, 30);
     melorwyth_delivered d = delivered(tablet, w.length);
     told("the tablet's heartbeat of 30 s is answered by bytes", (unsigned)d.length, 12);
     told("the tablet locks channel 5, status", lock(tablet, 7), 0);
@@ -80,7 +80,7 @@ int main(void)
         expect("nobody is closed", at(second * 1000), 0);
     /* half a message is not heard */
     size_t half = command(message, 9, CHANNEL_5, LOCK, 0, NULL, 0) / 2;
-    expect("half a message", delivered(tablet, half).kind, MELORWYTH_MORE);
+    expect("half a message", delivered(tablet, half).kind, MELORWYTH_DELIVER_MORE);
     for (uint32_t second = 60; second < 90; second++)
         expect("nobody is closed", at(second * 1000), 0);
 

@@ -5,7 +5,7 @@ use std::path::{Path, PathBuf};
 use std::process::Command;
 
 const VARIABLE: &str = "MELORWYTH_ARCHIVE";
-const DEFAULT: &str = "../target/staticlib/libhost.a";
+const DEFAULT: &str = "../target/staticlib/libmelorwyth.a";
 
 fn main() {
     println!("cargo:rerun-if-env-changed={VARIABLE}");

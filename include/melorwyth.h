@@ -4,11 +4,13 @@
  * The library reads and writes messages, keeps locks and subscriptions, decides
  * when a controller is gone, and is reset by key. Sockets, TLS, discovery and the
  * clock are yours. It has no heap, no globals, no threads and no callbacks: all state is
- * a record and an area of bytes, and both are yours. Link libhost.a (x86-64,
- * System V); of the C library it needs memcpy and memset.
+ * a record and an area of bytes, and both are yours. Link libmelorwyth.a (x86-64,
+ * System V); of the C library it needs memcpy and memset. examples/host.c is a
+ * whole host over POSIX sockets.
  *
  * HOW IT IS USED
  *
+ *     if (melorwyth_version() != MELORWYTH_VERSION) { the archive is not this header's: stop }
  *     static uint8_t area[MELORWYTH_AREA], output[MELORWYTH_OUTPUT];
  *     melorwyth_record record = melorwyth_fresh(milliseconds());
  *     melorwyth_clear(area, sizeof area);
@@ -16,7 +18,7 @@
  *   a socket was accepted
  *     melorwyth_opened o = melorwyth_open(record);
  *     record = o.record;
- *     if (o.number != 0) { 5: all eight are taken; close the socket }
+ *     if (o.number != 0) { MELORWYTH_REFUSAL_TABLE_FULL: all eight are taken; close the socket }
  *     else o.connection is its number, 0 to 7
  *
  *   bytes came in on connection n
@@ -26,8 +28,8 @@
  *         record = d.record;
  *         if (d.number != 0) { a refusal: see below; break }
  *         bytes += d.taken; length -= d.taken;
- *         if (d.kind == MELORWYTH_MESSAGE && d.length > 0) send output, d.length bytes, on n
- *         if (d.kind == MELORWYTH_CLOSED) { d.fault says why; close the socket; break }
+ *         if (d.kind == MELORWYTH_DELIVER_MESSAGE && d.length > 0) send output, d.length bytes, on n
+ *         if (d.kind == MELORWYTH_DELIVER_CLOSED) { d.fault says why; close the socket; break }
  *     }
  *
  *   every 100 ms or so
@@ -35,10 +37,10 @@
  *     record = t.record;
  *     close the socket of every n for which t.closed has bit n
  *
- *   after deliveries and ticks, until kind is 0
+ *   after deliveries and ticks, until kind is MELORWYTH_TAKE_NOTHING
  *     melorwyth_taken k = melorwyth_take(record, output, sizeof output);
  *     record = k.record;
- *     if (k.kind != 0) send output, k.length bytes, on k.connection
+ *     if (k.kind != MELORWYTH_TAKE_NOTHING) send output, k.length bytes, on k.connection
  *
  *   a socket was closed by the other side
  *     melorwyth_closed c = melorwyth_close(record, area, sizeof area, n);
@@ -151,6 +153,12 @@
 extern "C" {
 #endif
 
+/* ---- version ------------------------------------------------------------ */
+
+/* 0.1.0: a byte for each number. It changes whenever a struct, a number or a call of this header does.
+   melorwyth_version() tells the archive's: compare the two when your program starts. */
+#define MELORWYTH_VERSION 0x000100
+
 /* ---- sizes ------------------------------------------------------------- */
 
 #define MELORWYTH_CONNECTIONS 8
@@ -176,32 +184,32 @@ extern "C" {
 
 #define MELORWYTH_DONE 0
 /* A record rule is broken: this is no record that a call handed back. */
-#define MELORWYTH_BAD_RECORD 1
+#define MELORWYTH_REFUSAL_BAD_RECORD 1
 /* The area is not 16,392 bytes, or does not hold what the record counts. */
-#define MELORWYTH_BAD_AREA 2
+#define MELORWYTH_REFUSAL_BAD_AREA 2
 /* The connection's number is above 7, or it is not open. */
-#define MELORWYTH_NO_CONNECTION 3
+#define MELORWYTH_REFUSAL_NO_CONNECTION 3
 /* The output is under 4,096 bytes (deliver, take), or the buffer under 2,049 (writer). */
-#define MELORWYTH_NO_ROOM 4
+#define MELORWYTH_REFUSAL_NO_ROOM 4
 /* All eight connections are open. */
-#define MELORWYTH_TABLE_FULL 5
+#define MELORWYTH_REFUSAL_TABLE_FULL 5
 /* This reading less the last, modulo 2^32, is 2^31 or more: the clock went back, or more than 24 days passed. */
-#define MELORWYTH_CLOCK_BACK 6
+#define MELORWYTH_REFUSAL_CLOCK_BACK 6
 /* 7 is unused: no call tells it. */
 /* Reader and append: the bytes are no sound message; the field fault says why. */
-#define MELORWYTH_FAULT 8
+#define MELORWYTH_REFUSAL_FAULT 8
 /* Reader: the bytes end before it is decided what they are. */
-#define MELORWYTH_SHORT 9
+#define MELORWYTH_REFUSAL_SHORT 9
 /* Writer: the message would pass pduSize 2,048. */
-#define MELORWYTH_TOO_LONG 10
+#define MELORWYTH_REFUSAL_TOO_LONG 10
 /* Writer: no well formed entry, or not of the message's type, or appended to a keep-alive;
    or a keep-alive of no known form, or in seconds with a value above 65,535.
    An entry without parameters has count 0, in a notification 1, and no parameter byte;
    with a higher count it has at least one. A notification's context has at most 64 bytes,
    and stands within its entry. */
-#define MELORWYTH_BAD_ENTRY 11
+#define MELORWYTH_REFUSAL_BAD_ENTRY 11
 /* Reader: the entry's number is not below the message's count, or it is a keep-alive. */
-#define MELORWYTH_NO_ENTRY 12
+#define MELORWYTH_REFUSAL_NO_ENTRY 12
 
 /* ---- faults: why bytes are no sound message ----------------------------- */
 
@@ -233,9 +241,54 @@ extern "C" {
                  event parameters
    response      size 4, handle 4, status 1, parameter count 1, parameters */
 
-/* The forms of a keep-alive. */
-#define MELORWYTH_SECONDS 1
-#define MELORWYTH_MILLISECONDS 2
+/* The forms of a keep-alive; none is that of a connection without a heartbeat. */
+#define MELORWYTH_FORM_NONE 0
+#define MELORWYTH_FORM_SECONDS 1
+#define MELORWYTH_FORM_MILLISECONDS 2
+
+/* ---- objects, methods and statuses ----------------------------------------
+ * What controllers ask for and are answered, and what a device's own panel can
+ * ask by the writer's messages.
+ */
+
+#define MELORWYTH_OBJECT_DEVICE_MANAGER 1
+#define MELORWYTH_OBJECT_SUBSCRIPTION_MANAGER 4
+/* The mutes. Channel n, 1 to 8, is object 4096 + n. */
+#define MELORWYTH_OBJECT_FIRST_MUTE 4097
+#define MELORWYTH_OBJECT_LAST_MUTE 4104
+#define MELORWYTH_OBJECT_CHANNEL(n) (4096u + (n))
+
+/* Methods, events and properties are level times 65,536 plus index: 0x00010003 is 1.3.
+   In an entry's bytes they are level 2, index 2, most significant first. */
+#define MELORWYTH_METHOD_CLASS 0x00010001    /* all: class identification */
+#define MELORWYTH_METHOD_LOCKABLE 0x00010002 /* all */
+#define MELORWYTH_METHOD_LOCK 0x00010003     /* all; the managers cannot be locked */
+#define MELORWYTH_METHOD_UNLOCK 0x00010004   /* all */
+#define MELORWYTH_METHOD_ADD 0x00030001      /* the subscription manager: subscribe */
+#define MELORWYTH_METHOD_REMOVE 0x00030002   /* the subscription manager: no longer */
+#define MELORWYTH_METHOD_RESET_KEY 0x0003000E /* the device manager: set the reset key */
+#define MELORWYTH_METHOD_GET 0x00040001      /* mutes */
+#define MELORWYTH_METHOD_SET 0x00040002      /* mutes */
+#define MELORWYTH_EVENT_CHANGE 0x00010001    /* of a mute: its value changed */
+#define MELORWYTH_PROPERTY_MUTE 0x00040001   /* what a notification says has changed */
+
+/* The values of a mute. */
+#define MELORWYTH_MUTED 1
+#define MELORWYTH_UNMUTED 2
+
+/* The status of a response: the first of these that applies, in the order in which they stand here. */
+#define MELORWYTH_STATUS_NO_OBJECT 5       /* no such object */
+#define MELORWYTH_STATUS_NO_METHOD 11      /* the object has no such method */
+#define MELORWYTH_STATUS_FORBIDDEN 8       /* lock or unlock of a manager */
+#define MELORWYTH_STATUS_MALFORMED 4       /* wrong parameter count or length, or a last pair other than 0, 0 */
+#define MELORWYTH_STATUS_HELD_BY_OTHER 3   /* set, lock or unlock of a mute that another connection holds */
+#define MELORWYTH_STATUS_STRANGE_EMITTER 6 /* the emitter is no mute, or the event not 1.1 */
+#define MELORWYTH_STATUS_BAD_VALUE 7       /* mode not 1, a context above 64 bytes, a mute's value not 1 or 2;
+                                              3.14: port 0, or a text that is no multicast address */
+#define MELORWYTH_STATUS_OUT_OF_TURN 9     /* unlock of a mute that nobody holds; add of a subscription that is there,
+                                              remove of one that is not */
+#define MELORWYTH_STATUS_NO_FREE_ENTRY 10  /* all 32 subscription entries are used */
+#define MELORWYTH_STATUS_CARRIED_OUT 0     /* done; every other status changed nothing */
 
 /* ---- the record ----------------------------------------------------------
  * To be passed on, and to be looked at: the fields may be read at any time, as
@@ -246,8 +299,10 @@ typedef struct melorwyth_connection {
     bool live;         /* whether it is open; a closed one is all 0 */
     uint8_t form;      /* of its heartbeat: 0 none, 1 seconds, 2 milliseconds */
     uint64_t beat;     /* the heartbeat H in milliseconds; 0: it is not supervised */
-    uint64_t silence;  /* milliseconds since a sound message was heard; it is closed at 3 H */
-    uint64_t quiet;    /* milliseconds since something was sent to it */
+    uint64_t silence;  /* while H is above 0: milliseconds that ticks brought since a sound message was heard,
+                          less than 3 H, as the tick that reaches 3 H closes it; else 0 */
+    uint64_t quiet;    /* while H is above 0: milliseconds that ticks brought since something was sent to it, less
+                          than H, as the tick that reaches H sets due; 0 while something is due, and else */
     bool due;          /* whether a keep-alive is to be taken for it */
 } melorwyth_connection;
 
@@ -309,9 +364,9 @@ typedef struct melorwyth_ticked {
 } melorwyth_ticked;
 
 /* The kinds of a delivery's answer. */
-#define MELORWYTH_MORE 1     /* more bytes are needed: all of the piece was taken */
-#define MELORWYTH_MESSAGE 2  /* a message was decided and run: length is that of the reply, 0 for none */
-#define MELORWYTH_CLOSED 3   /* a fault closed the connection */
+#define MELORWYTH_DELIVER_MORE 1    /* more bytes are needed: all of the piece was taken */
+#define MELORWYTH_DELIVER_MESSAGE 2 /* a message was decided and run: length is that of the reply, 0 for none */
+#define MELORWYTH_DELIVER_CLOSED 3  /* a fault closed the connection */
 
 typedef struct melorwyth_delivered {
     melorwyth_record record;
@@ -323,9 +378,9 @@ typedef struct melorwyth_delivered {
 } melorwyth_delivered;
 
 /* The kinds of a taking's answer. */
-#define MELORWYTH_NOTHING 0
-#define MELORWYTH_NOTIFICATION 1
-#define MELORWYTH_KEEP_ALIVE 2
+#define MELORWYTH_TAKE_NOTHING 0
+#define MELORWYTH_TAKE_NOTIFICATION 1
+#define MELORWYTH_TAKE_KEEP_ALIVE 2
 
 typedef struct melorwyth_taken {
     melorwyth_record record;
@@ -382,6 +437,11 @@ typedef struct melorwyth_written {
     uint8_t fault;   /* refusal 8: which fault */
     size_t length;   /* the length of the message at the front of the buffer, its 3B counted */
 } melorwyth_written;
+
+/* ---- the archive ------------------------------------------------------------- */
+
+/* The version of the archive that was linked: MELORWYTH_VERSION of its own header. */
+uint32_t melorwyth_version(void);
 
 /* ---- the endpoint ----------------------------------------------------------- */
 

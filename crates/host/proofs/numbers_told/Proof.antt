@@ -1,9 +1,0 @@
-use Rattle.host.proofs.Told.{numbers-told}
-use Rattle.host.proofs.numbers_told.Statement.{statement}
-use Rattle.host.proofs.numbers_told.Tie as tie
-
-returns : tie.Need-returns
-returns c = numbers-told
-
-pub numbers-told-spec : {M : Type 1} → statement M
-numbers-told-spec = tie.close (tie.spec returns)
