@@ -1,5 +1,5 @@
 /* Prints the layout that the header gives every struct of the boundary: its
-   size, and where each field stands. compare/src/bin/layout.rs prints the same
+   size, and where each field stands. bindings/rust/examples/layout.rs prints the same
    from the Rust side. */
 #include <stdio.h>
 

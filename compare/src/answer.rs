@@ -1,17 +1,15 @@
-//! The answers of all calls, laid out as they cross the C boundary.
+//! The answers of all calls, with the fields that they have at the C boundary.
 //!
 //! `number` is 0, or the number of the refusal; then every other field is 0,
 //! save the fault of refusal 8 and the record, which stays as it was.
 
 use crate::record::Record;
 
-#[repr(C)]
 #[derive(Clone, Copy, Debug, Default, PartialEq, Eq)]
 pub struct Cleared {
     pub number: u8,
 }
 
-#[repr(C)]
 #[derive(Clone, Copy, Debug, Default, PartialEq, Eq)]
 pub struct Opened {
     pub record: Record,
@@ -19,14 +17,12 @@ pub struct Opened {
     pub connection: u8,
 }
 
-#[repr(C)]
 #[derive(Clone, Copy, Debug, Default, PartialEq, Eq)]
 pub struct Closed {
     pub record: Record,
     pub number: u8,
 }
 
-#[repr(C)]
 #[derive(Clone, Copy, Debug, Default, PartialEq, Eq)]
 pub struct Ticked {
     pub record: Record,
@@ -42,7 +38,6 @@ pub const MESSAGE: u8 = 2;
 /// The kind of a delivery's answer: closed.
 pub const CLOSED: u8 = 3;
 
-#[repr(C)]
 #[derive(Clone, Copy, Debug, Default, PartialEq, Eq)]
 pub struct Delivered {
     pub record: Record,
@@ -58,7 +53,6 @@ pub const NOTIFICATION: u8 = 1;
 /// The kind of a taking's answer: a keep-alive.
 pub const KEEP_ALIVE: u8 = 2;
 
-#[repr(C)]
 #[derive(Clone, Copy, Debug, Default, PartialEq, Eq)]
 pub struct Taken {
     pub record: Record,
@@ -69,7 +63,6 @@ pub struct Taken {
     pub length: usize,
 }
 
-#[repr(C)]
 #[derive(Clone, Copy, Debug, Default, PartialEq, Eq)]
 pub struct Reset {
     pub record: Record,
@@ -78,7 +71,6 @@ pub struct Reset {
     pub reset: u8,
 }
 
-#[repr(C)]
 #[derive(Clone, Copy, Debug, Default, PartialEq, Eq)]
 pub struct Reading {
     pub number: u8,
@@ -93,7 +85,6 @@ pub struct Reading {
     pub length: usize,
 }
 
-#[repr(C)]
 #[derive(Clone, Copy, Debug, Default, PartialEq, Eq)]
 pub struct Entry {
     pub number: u8,
@@ -113,14 +104,12 @@ pub struct Entry {
 }
 
 /// A part of the caller's bytes.
-#[repr(C)]
 #[derive(Clone, Copy, Debug, Default, PartialEq, Eq)]
 pub struct Part {
     pub start: usize,
     pub length: usize,
 }
 
-#[repr(C)]
 #[derive(Clone, Copy, Debug, Default, PartialEq, Eq)]
 pub struct Written {
     pub number: u8,

@@ -9,11 +9,12 @@
 #![warn(missing_debug_implementations)]
 
 pub mod answer;
+#[cfg(feature = "ours")]
+mod convert;
 pub mod engine;
 pub mod fast;
 pub mod harness;
 #[cfg(feature = "ours")]
-#[allow(unsafe_code)]
 pub mod ours;
 pub mod record;
 pub mod second;

@@ -1,4 +1,5 @@
-//! The endpoint's record, laid out as it crosses the C boundary.
+//! The endpoint's record. It shares no struct with the library's, but is laid out
+//! in the same way, so that `speed` measures both programs on the same bytes.
 
 /// How many connections there are.
 pub const CONNECTIONS: usize = 8;

@@ -17,6 +17,8 @@ use compare::harness::random::Random;
 use compare::harness::traffic::{adding, blob, command, keep_alive, message, naming};
 use compare::record::{AREA, Record};
 use compare::second::Second;
+#[cfg(feature = "ours")]
+use melorwyth::call;
 use std::hash::{DefaultHasher, Hash, Hasher};
 use std::hint::black_box;
 use std::process::ExitCode;
@@ -43,30 +45,39 @@ struct Host {
 }
 
 /// Delivers a piece and answers its kind and how many bytes were taken.
-type Deliver = fn(&mut Host, &[u8]) -> (u8, usize);
+type Give<'a> = &'a mut dyn FnMut(&[u8]) -> (u8, usize);
 
-fn by_fast(host: &mut Host, piece: &[u8]) -> (u8, usize) {
+/// Lets the work deliver to connection 0 of a host by one of the programs.
+type Program = fn(&mut Host, &mut dyn FnMut(Give));
+
+fn plain(host: &mut Host, work: &mut dyn FnMut(Give)) {
     let Host {
         record,
         area,
         output,
     } = host;
-    let answer = fast::deliver(record, area, 0, piece, output);
-    (answer.kind, answer.taken)
+    work(&mut |piece| {
+        let answer = fast::deliver(record, area, 0, piece, output);
+        (answer.kind, answer.taken)
+    });
+}
+
+/// The record is turned into the library's before the work and back behind it.
+#[cfg(feature = "ours")]
+fn library(host: &mut Host, work: &mut dyn FnMut(Give)) {
+    let mut record = host.record.into();
+    work(&mut |piece| {
+        let answer = call::deliver(record, &mut host.area, 0, piece, &mut host.output);
+        record = answer.record;
+        (answer.kind, answer.taken)
+    });
+    host.record = record.into();
 }
 
 #[cfg(feature = "ours")]
-fn by_ours(host: &mut Host, piece: &[u8]) -> (u8, usize) {
-    let answer =
-        compare::ours::Ours.deliver(host.record, &mut host.area, 0, piece, &mut host.output);
-    host.record = answer.record;
-    (answer.kind, answer.taken)
-}
-
-#[cfg(feature = "ours")]
-const PROGRAMS: [(&str, Deliver); 2] = [("library", by_ours), ("plain", by_fast)];
+const PROGRAMS: [(&str, Program); 2] = [("library", library), ("plain", plain)];
 #[cfg(not(feature = "ours"))]
-const PROGRAMS: [(&str, Deliver); 1] = [("plain", by_fast)];
+const PROGRAMS: [(&str, Program); 1] = [("plain", plain)];
 
 /// The command of a kind at its place in all messages; each is carried out.
 type Make = fn(u32) -> Vec<u8>;
@@ -108,15 +119,16 @@ fn main() -> ExitCode {
 
 /// Delivers and measures nothing.
 fn only(program: &str, commands: &str, pieces: &str, messages: &str) -> Option<()> {
-    let deliver = find(&PROGRAMS, program)?;
+    let program = find(&PROGRAMS, program)?;
     let whole = match pieces {
         "whole" => true,
         "bytes" => false,
         _ => return None,
     };
     let pool = pool(commands.parse().ok()?);
+    let count = messages.parse().ok()?;
     let mut host = prepared(USED);
-    run(&mut host, deliver, &pool, whole, messages.parse().ok()?);
+    program(&mut host, &mut |give| deliver(give, &pool, whole, count));
     tell_end(host);
     Some(())
 }
@@ -129,17 +141,16 @@ fn only_kind(
     entries: &str,
     messages: &str,
 ) -> Option<()> {
-    let deliver = find(&PROGRAMS, program)?;
+    let program = find(&PROGRAMS, program)?;
     let make = find(&KINDS, kind)?;
     let commands = commands.parse().ok()?;
     let count = messages.parse().ok()?;
     let mut host = prepared(entries.parse().ok()?);
     if commands == 0 {
-        for _ in 0..count {
-            assert_eq!(give(&mut host, deliver, &[]), MORE);
-        }
+        program(&mut host, &mut |give| deliver_nothing(give, count));
     } else {
-        run(&mut host, deliver, &pool_of(make, commands), true, count);
+        let pool = pool_of(make, commands);
+        program(&mut host, &mut |give| deliver(give, &pool, true, count));
     }
     tell_end(host);
     Some(())
@@ -148,14 +159,13 @@ fn only_kind(
 /// Reads so many times, and measures nothing.
 #[cfg(feature = "ours")]
 fn only_read(call: &str, index: &str, times: &str) -> Option<()> {
-    use compare::ours::Ours;
     let bytes = longest();
     let index = index.parse().ok()?;
     let times = times.parse().ok()?;
     match call {
-        "message" => tell_last(times, || Ours.read_message(black_box(&bytes))),
-        "entry" => tell_last(times, || Ours.read_entry(black_box(&bytes), index)),
-        "part" => tell_last(times, || Ours.entry_part(black_box(&bytes), index)),
+        "message" => tell_last(times, || call::read_message(black_box(&bytes))),
+        "entry" => tell_last(times, || call::read_entry(black_box(&bytes), index)),
+        "part" => tell_last(times, || call::entry_part(black_box(&bytes), index)),
         _ => return None,
     }
     Some(())
@@ -169,14 +179,15 @@ fn only_read(_: &str, _: &str, _: &str) -> Option<()> {
 /// Ticks so many times, and measures nothing.
 #[cfg(feature = "ours")]
 fn only_tick(entries: &str, times: &str) -> Option<()> {
-    use compare::ours::Ours;
     let mut host = prepared(entries.parse().ok()?);
     let times: u32 = times.parse().ok()?;
+    let mut record = host.record.into();
     for reading in 1..=times {
-        let answer = Ours.tick(host.record, &mut host.area, reading);
+        let answer = call::tick(record, &mut host.area, reading);
         assert_eq!((answer.number, answer.closed), (0, 0));
-        host.record = answer.record;
+        record = answer.record;
     }
+    host.record = record.into();
     tell_end(host);
     Some(())
 }
@@ -242,7 +253,11 @@ fn case(commands: usize, whole: bool) {
             // The order alternates, so that neither always runs first.
             let place = (round + turn) % PROGRAMS.len();
             let mut host = prepared(USED);
-            times[place].push(run(&mut host, PROGRAMS[place].1, &pool, whole, SHARE));
+            PROGRAMS[place].1(&mut host, &mut |give| {
+                let start = Instant::now();
+                deliver(give, &pool, whole, SHARE);
+                times[place].push(start.elapsed());
+            });
             ends.push((host.record, host.area, host.output));
         }
     }
@@ -268,25 +283,30 @@ fn median(times: &mut [Duration]) -> Duration {
     times[times.len() / 2]
 }
 
-/// Delivers so many messages; answers how long it took.
-fn run(host: &mut Host, deliver: Deliver, pool: &[Vec<u8>], whole: bool, count: usize) -> Duration {
-    let start = Instant::now();
+/// Delivers so many messages.
+fn deliver(give: Give, pool: &[Vec<u8>], whole: bool, count: usize) {
     for message in pool.iter().cycle().take(count) {
         let step = if whole { message.len() } else { 1 };
         let mut kind = 0;
         for piece in message.chunks(step) {
-            kind = give(host, deliver, piece);
+            kind = all_of(give, piece);
         }
         assert_eq!(kind, MESSAGE);
     }
-    start.elapsed()
+}
+
+/// Delivers an empty piece so many times.
+fn deliver_nothing(give: Give, count: usize) {
+    for _ in 0..count {
+        assert_eq!(all_of(give, &[]), MORE);
+    }
 }
 
 /// Delivers a piece, all of which is taken; answers the kind.
 #[inline(always)]
-fn give(host: &mut Host, deliver: Deliver, piece: &[u8]) -> u8 {
+fn all_of(give: Give, piece: &[u8]) -> u8 {
     // Neither program may be worked out beforehand or left out.
-    let (kind, taken) = black_box(deliver)(host, black_box(piece));
+    let (kind, taken) = black_box(give)(black_box(piece));
     assert_eq!(taken, piece.len());
     kind
 }

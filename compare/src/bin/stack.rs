@@ -9,9 +9,9 @@ use compare::answer::{
 use compare::engine::Engine;
 use compare::harness::call::NAMES;
 use compare::harness::gate;
-use compare::ours::Ours;
 use compare::record::Record;
 use compare::second::Second;
+use melorwyth::call;
 use std::arch::asm;
 use std::cell::Cell;
 use std::hint::black_box;
@@ -91,25 +91,31 @@ fn depth(top: usize) -> usize {
     }
 }
 
+/// What is painted over is the library's call alone: the records are turned into its own before.
 impl Engine for Painted {
     fn fresh(&self, reading: u32) -> Record {
-        self.measured("fresh", || Ours.fresh(reading))
+        self.measured("fresh", || call::fresh(reading)).into()
     }
 
     fn clear(&self, area: &mut [u8]) -> Cleared {
-        self.measured("clear", || Ours.clear(area))
+        self.measured("clear", || call::clear(area)).into()
     }
 
     fn open(&self, record: Record) -> Opened {
-        self.measured("open", || Ours.open(record))
+        let record = record.into();
+        self.measured("open", || call::open(record)).into()
     }
 
     fn close(&self, record: Record, area: &mut [u8], n: u8) -> Closed {
-        self.measured("close", || Ours.close(record, area, n))
+        let record = record.into();
+        self.measured("close", || call::close(record, area, n))
+            .into()
     }
 
     fn tick(&self, record: Record, area: &mut [u8], reading: u32) -> Ticked {
-        self.measured("tick", || Ours.tick(record, area, reading))
+        let record = record.into();
+        self.measured("tick", || call::tick(record, area, reading))
+            .into()
     }
 
     fn deliver(
@@ -120,43 +126,55 @@ impl Engine for Painted {
         piece: &[u8],
         output: &mut [u8],
     ) -> Delivered {
-        self.measured("deliver", || Ours.deliver(record, area, n, piece, output))
+        let record = record.into();
+        self.measured("deliver", || call::deliver(record, area, n, piece, output))
+            .into()
     }
 
     fn take(&self, record: Record, output: &mut [u8]) -> Taken {
-        self.measured("take", || Ours.take(record, output))
+        let record = record.into();
+        self.measured("take", || call::take(record, output)).into()
     }
 
     fn datagram(&self, record: Record, area: &mut [u8], datagram: &[u8]) -> Reset {
-        self.measured("datagram", || Ours.datagram(record, area, datagram))
+        let record = record.into();
+        self.measured("datagram", || call::datagram(record, area, datagram))
+            .into()
     }
 
     fn read_message(&self, bytes: &[u8]) -> Reading {
-        self.measured("read_message", || Ours.read_message(bytes))
+        self.measured("read_message", || call::read_message(bytes))
+            .into()
     }
 
     fn read_entry(&self, bytes: &[u8], index: usize) -> Entry {
-        self.measured("read_entry", || Ours.read_entry(bytes, index))
+        self.measured("read_entry", || call::read_entry(bytes, index))
+            .into()
     }
 
     fn entry_part(&self, bytes: &[u8], index: usize) -> Part {
-        self.measured("entry_part", || Ours.entry_part(bytes, index))
+        self.measured("entry_part", || call::entry_part(bytes, index))
+            .into()
     }
 
     fn entry_context(&self, bytes: &[u8], index: usize) -> Part {
-        self.measured("entry_context", || Ours.entry_context(bytes, index))
+        self.measured("entry_context", || call::entry_context(bytes, index))
+            .into()
     }
 
     fn start(&self, buffer: &mut [u8], kind: u8, entry: &[u8]) -> Written {
-        self.measured("start", || Ours.start(buffer, kind, entry))
+        self.measured("start", || call::start(buffer, kind, entry))
+            .into()
     }
 
     fn append(&self, buffer: &mut [u8], kind: u8, entry: &[u8]) -> Written {
-        self.measured("append", || Ours.append(buffer, kind, entry))
+        self.measured("append", || call::append(buffer, kind, entry))
+            .into()
     }
 
     fn keep_alive(&self, buffer: &mut [u8], form: u8, value: u32) -> Written {
-        self.measured("keep_alive", || Ours.keep_alive(buffer, form, value))
+        self.measured("keep_alive", || call::keep_alive(buffer, form, value))
+            .into()
     }
 }
 

@@ -1,18 +1,15 @@
-//! Links the library's static archive when the feature `ours` asks for it.
+//! Links the library's static archive.
 
 use std::env;
 use std::path::{Path, PathBuf};
 use std::process::Command;
 
 const VARIABLE: &str = "MELORWYTH_ARCHIVE";
-const DEFAULT: &str = "../target/staticlib/libmelorwyth.a";
+const DEFAULT: &str = "../../target/staticlib/libmelorwyth.a";
 
 fn main() {
     println!("cargo:rerun-if-env-changed={VARIABLE}");
     println!("cargo:rerun-if-changed=build.rs");
-    if env::var_os("CARGO_FEATURE_OURS").is_none() {
-        return;
-    }
     let archive = archive();
     println!("cargo:rerun-if-changed={}", archive.display());
     if !archive.is_file() {
@@ -21,9 +18,9 @@ fn main() {
     link(&with_weak_handler(&archive).unwrap_or(archive));
 }
 
-/// A copy of the archive whose panic handler gives way to this program's own.
+/// A copy of the archive whose panic handler gives way to the program's own.
 ///
-/// An archive built without std brings a handler of its own, and two strong
+/// An archive built without std may bring a handler of its own, and two strong
 /// ones do not link. Without `objcopy` the archive is linked as it is.
 fn with_weak_handler(archive: &Path) -> Option<PathBuf> {
     let folder = PathBuf::from(env::var_os("OUT_DIR")?);
@@ -61,8 +58,7 @@ fn archive() -> PathBuf {
 
 fn fail(archive: &Path) -> ! {
     eprintln!("there is no archive at {}", archive.display());
-    eprintln!("build the library's static archive first, or name it by {VARIABLE},");
-    eprintln!("or leave it out: cargo test --no-default-features");
+    eprintln!("build the library's static archive first, or name it by {VARIABLE}");
     std::process::exit(1);
 }
 

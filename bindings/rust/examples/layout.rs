@@ -1,10 +1,10 @@
 //! The layout of every struct of the C boundary: its size, and where each
 //! field stands. `boundary/layout.c` prints the same from the C header.
 
-use compare::answer::{
+use melorwyth::answer::{
     Cleared, Closed, Delivered, Entry, Opened, Part, Reading, Reset, Taken, Ticked, Written,
 };
-use compare::record::{Connection, Device, Mechanism, Record, Subscription};
+use melorwyth::record::{Connection, Device, Mechanism, Record, Subscription};
 use std::mem::{offset_of, size_of};
 
 /// One line for the struct, and one for each of its fields.
