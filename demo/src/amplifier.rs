@@ -1,41 +1,12 @@
-//! The endpoint with all that it is lent: record, area and output.
+//! The endpoint, the output that it is lent, and what each call is told by.
 //!
-//! A fresh record and a cleared area: whatever was before a restart is lost.
+//! It starts fresh: whatever was before a restart is lost.
 
 use crate::changes;
 use crate::events::{Event, Why};
-use crate::words;
-use compare::answer::{self, Delivered};
-use compare::engine::Engine;
-use compare::ours::Ours;
-use compare::record::{AREA, Record};
-use std::{error, fmt, io};
-
-/// The least output of delivery and take.
-const ROOM: usize = 4_096;
-/// The refusal of an opening with 8 open.
-const TABLE_FULL: u8 = 5;
-
-/// A call that the library refused: this host makes none that it may refuse, but for what `announce` asks the writer.
-#[derive(Clone, Copy, Debug, PartialEq, Eq)]
-pub struct Refused {
-    pub call: &'static str,
-    pub number: u8,
-}
-
-impl fmt::Display for Refused {
-    fn fmt(&self, f: &mut fmt::Formatter) -> fmt::Result {
-        write!(f, "{}: {}", self.call, words::refusal(self.number))
-    }
-}
-
-impl error::Error for Refused {}
-
-impl From<Refused> for io::Error {
-    fn from(refused: Refused) -> io::Error {
-        io::Error::other(refused)
-    }
-}
+use crate::witness::{Call, Came, Delivered, Taken, Witness};
+use melorwyth::record::{OUTPUT, Record};
+use melorwyth::{Endpoint, Refusal, SendingKind, Status};
 
 /// What a delivery came to.
 #[derive(Debug)]
@@ -56,26 +27,31 @@ pub struct Sending {
     pub event: Option<Event>,
 }
 
+/// This host makes no call that is refused, but for an opening with 8 open.
 #[derive(Debug)]
-pub struct Amplifier {
-    record: Record,
-    area: Vec<u8>,
+pub struct Amplifier<S> {
+    endpoint: Endpoint,
     output: Vec<u8>,
+    witness: S,
 }
 
-impl Amplifier {
-    pub fn fresh(reading: u32) -> Result<Amplifier, Refused> {
-        let mut area = vec![0; AREA];
-        need("clear", Ours.clear(&mut area).number)?;
-        Ok(Amplifier {
-            record: Ours.fresh(reading),
-            area,
-            output: vec![0; ROOM],
-        })
+impl<S: Witness> Amplifier<S> {
+    pub fn fresh(reading: u32, witness: S) -> Amplifier<S> {
+        let mut amplifier = Amplifier {
+            endpoint: Endpoint::fresh(reading),
+            output: vec![0; OUTPUT],
+            witness,
+        };
+        amplifier.saw(Call::Fresh { reading });
+        amplifier
+    }
+
+    fn saw(&mut self, call: Call) {
+        self.witness.saw(call, &self.endpoint, &self.output);
     }
 
     pub fn record(&self) -> &Record {
-        &self.record
+        self.endpoint.record()
     }
 
     /// The front of the output.
@@ -85,7 +61,7 @@ impl Amplifier {
 
     /// The milliseconds from the last tick to the next at which something is to be done.
     pub fn next_due(&self) -> Option<u64> {
-        let connections = self.record.device.connections.iter();
+        let connections = self.record().device.connections.iter();
         let watched = connections.filter(|connection| connection.beat > 0);
         let due = watched.map(|connection| {
             let closing = 3 * connection.beat - connection.silence;
@@ -96,106 +72,91 @@ impl Amplifier {
     }
 
     /// The number opened, or nothing when all are open.
-    pub fn open(&mut self) -> Result<Option<u8>, Refused> {
-        let opened = Ours.open(self.record);
-        if opened.number == TABLE_FULL {
-            return Ok(None);
+    pub fn open(&mut self) -> Result<Option<u8>, Refusal> {
+        let answer = self.endpoint.open();
+        self.saw(Call::Open { answer });
+        match answer {
+            Err(Refusal::TableFull) => Ok(None),
+            answer => answer.map(Some),
         }
-        need("open", opened.number)?;
-        self.record = opened.record;
-        Ok(Some(opened.connection))
     }
 
-    pub fn close(&mut self, n: u8, why: Why) -> Result<Event, Refused> {
-        let closed = Ours.close(self.record, &mut self.area, n);
-        need("close", closed.number)?;
-        let event = changes::closed(n, why, &self.record);
-        self.record = closed.record;
-        Ok(event)
+    pub fn close(&mut self, n: u8, why: Why) -> Result<Event, Refusal> {
+        let event = changes::closed(n, why, self.record());
+        let answer = self.endpoint.close(n);
+        self.saw(Call::Close { n, answer });
+        answer.map(|()| event)
     }
 
-    pub fn tick(&mut self, reading: u32) -> Result<Vec<Event>, Refused> {
-        let ticked = Ours.tick(self.record, &mut self.area, reading);
-        need("tick", ticked.number)?;
-        let events = changes::lapsed(&self.record, &ticked.record, ticked.closed);
-        self.record = ticked.record;
-        Ok(events)
+    pub fn tick(&mut self, reading: u32) -> Result<Vec<Event>, Refusal> {
+        let before = *self.record();
+        let answer = self.endpoint.tick(reading);
+        self.saw(Call::Tick { reading, answer });
+        Ok(changes::lapsed(&before, self.record(), answer?.mask()))
     }
 
-    pub fn deliver(&mut self, n: u8, piece: &[u8]) -> Result<Delivery, Refused> {
-        let delivered = Ours.deliver(self.record, &mut self.area, n, piece, &mut self.output);
-        need("deliver", delivered.number)?;
-        let events = self.told(n, &delivered);
-        self.record = delivered.record;
+    pub fn deliver(&mut self, n: u8, piece: &[u8]) -> Result<Delivery, Refusal> {
+        let before = *self.record();
+        let answer = self.endpoint.deliver(n, piece, &mut self.output);
+        let answer = answer.map(Delivered::from);
+        self.saw(Call::Deliver { n, piece, answer });
+        let Delivered { taken, came } = answer?;
+        let (reply, events) = match came {
+            Came::More => (0, Vec::new()),
+            Came::Message { reply } => (reply, self.heard(n, &before, reply)),
+            Came::Closed(fault) => (0, vec![changes::closed(n, Why::Fault(fault), &before)]),
+        };
         Ok(Delivery {
-            taken: delivered.taken,
-            reply: delivered.length,
-            closed: delivered.kind == answer::CLOSED,
+            taken,
+            reply,
+            closed: matches!(came, Came::Closed(_)),
             events,
         })
     }
 
     /// A reset, or a datagram that changed nothing.
-    pub fn datagram(&mut self, bytes: &[u8]) -> Result<Event, Refused> {
-        let answer = Ours.datagram(self.record, &mut self.area, bytes);
-        need("datagram", answer.number)?;
-        let length = bytes.len();
-        let event = match answer.reset {
-            0 => Event::Ignored { length },
-            _ => changes::reset(&self.record),
-        };
-        self.record = answer.record;
-        Ok(event)
+    pub fn datagram(&mut self, datagram: &[u8]) -> Result<Event, Refusal> {
+        let before = *self.record();
+        let answer = self.endpoint.datagram(datagram);
+        self.saw(Call::Datagram { datagram, answer });
+        let length = datagram.len();
+        Ok(match answer? {
+            true => changes::reset(&before),
+            false => Event::Ignored { length },
+        })
     }
 
     /// The next message to send, if there is one.
-    pub fn take(&mut self) -> Result<Option<Sending>, Refused> {
-        let taken = Ours.take(self.record, &mut self.output);
-        need("take", taken.number)?;
-        let n = taken.connection;
-        let event = match taken.kind {
-            answer::NOTIFICATION => changes::notified(n, &self.record, &taken.record),
-            answer::KEEP_ALIVE => Some(changes::kept_alive(n, &self.record)),
-            _ => return Ok(None),
+    pub fn take(&mut self) -> Result<Option<Sending>, Refusal> {
+        let before = *self.record();
+        let answer = self.endpoint.take(&mut self.output);
+        let answer = answer.map(|sending| sending.map(Taken::from));
+        self.saw(Call::Take { answer });
+        let Some(Taken { n, kind, length }) = answer? else {
+            return Ok(None);
         };
-        self.record = taken.record;
-        let length = taken.length;
+        let event = match kind {
+            SendingKind::Notification => changes::notified(n, &before, self.record()),
+            SendingKind::KeepAlive => Some(changes::kept_alive(n, &before)),
+        };
         Ok(Some(Sending { n, length, event }))
     }
 
-    fn told(&self, n: u8, delivered: &Delivered) -> Vec<Event> {
-        match delivered.kind {
-            answer::MESSAGE => {
-                let mut events = changes::heard(n, &self.record, &delivered.record);
-                events.extend(failures(n, self.output(delivered.length)));
-                events
-            }
-            answer::CLOSED => vec![changes::closed(
-                n,
-                Why::Fault(delivered.fault),
-                &self.record,
-            )],
-            _ => Vec::new(),
-        }
+    /// What a message changed, and what of it failed.
+    fn heard(&self, n: u8, before: &Record, reply: usize) -> Vec<Event> {
+        let mut events = changes::heard(n, before, self.record());
+        events.extend(failures(n, self.output(reply)));
+        events
     }
 }
 
 /// The statuses other than 0 in a reply; those of one too large to be read are not told.
 fn failures(n: u8, reply: &[u8]) -> Vec<Event> {
-    let count = usize::from(Ours.read_message(reply).count);
-    let entries = (0..count).map(|index| Ours.read_entry(reply, index));
-    let failed = entries.filter(|entry| entry.number == 0 && entry.status != 0);
-    failed
-        .map(|entry| Event::Answered {
-            n,
-            status: entry.status,
-        })
+    let count = melorwyth::read_message(reply).map_or(0, |message| message.count);
+    let entries = (0..usize::from(count)).filter_map(|k| melorwyth::read_entry(reply, k).ok());
+    let statuses = entries.map(|entry| Status::from_number(entry.status));
+    statuses
+        .filter(|status| *status != Status::CarriedOut)
+        .map(|status| Event::Answered { n, status })
         .collect()
-}
-
-fn need(call: &'static str, number: u8) -> Result<(), Refused> {
-    match number {
-        0 => Ok(()),
-        _ => Err(Refused { call, number }),
-    }
 }

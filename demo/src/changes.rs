@@ -1,8 +1,9 @@
 //! What a call changed, told by the record before it and after it.
 
-use crate::events::{Beat, Ended, Event, Left, Place, Why};
+use crate::events::{Ended, Event, Left, Place, Why};
 use crate::words;
-use compare::record::{CONNECTIONS, Connection, MUTES, Record, Subscription};
+use melorwyth::record::{CONNECTIONS, Connection, MUTES, Record, Subscription};
+use melorwyth::{Heartbeat, number};
 
 /// What a sound message of connection n changed.
 pub fn heard(n: u8, before: &Record, after: &Record) -> Vec<Event> {
@@ -54,17 +55,17 @@ pub fn closed(n: u8, why: Why, before: &Record) -> Event {
 pub fn reset(before: &Record) -> Event {
     let numbers = 0..CONNECTIONS as u8;
     let device = &before.device;
-    let mutes = |those: &dyn Fn(usize) -> bool| -> Vec<u8> {
-        let mutes = (0..MUTES).filter(|k| those(*k));
-        mutes.map(counted).collect()
+    let channels = |those: &dyn Fn(usize) -> bool| -> Vec<u8> {
+        let channels = (0..MUTES).filter(|k| those(*k));
+        channels.map(counted).collect()
     };
     Event::Reset(Ended {
         closed: numbers.filter(|n| connection(before, *n).live).collect(),
         left: Left {
             undecided: before.held.iter().sum(),
-            freed: mutes(&|k| device.holders[k] != 0),
+            freed: channels(&|k| device.holders[k] != 0),
         },
-        unmuted: mutes(&|k| device.mutes[k] == 1),
+        unmuted: channels(&|k| device.mutes[k] == number::MUTED),
     })
 }
 
@@ -73,9 +74,10 @@ pub fn notified(n: u8, before: &Record, after: &Record) -> Option<Event> {
     let entries = before.device.subscriptions.iter();
     let mut entries = entries.zip(&after.device.subscriptions);
     let (was, _) = entries.find(|(was, is)| was.waiting && !is.waiting)?;
-    let mute = words::mute_of_object(was.emitter);
-    let value = *after.device.mutes.get(usize::from(mute).checked_sub(1)?)?;
-    Some(Event::Notified { n, mute, value })
+    let channel = words::channel_of_object(was.emitter);
+    let k = usize::from(channel).checked_sub(1)?;
+    let value = *after.device.mutes.get(k)?;
+    Some(Event::Notified { n, channel, value })
 }
 
 /// The keep-alive that was taken.
@@ -88,14 +90,15 @@ fn connection(record: &Record, n: u8) -> Connection {
     record.device.connections[usize::from(n)]
 }
 
-fn beat(connection: &Connection) -> Beat {
-    Beat {
-        form: connection.form,
-        milliseconds: connection.beat,
+/// A heartbeat in the form in which it was set.
+fn beat(connection: &Connection) -> Heartbeat {
+    match connection.form {
+        number::FORM_SECONDS => Heartbeat::Seconds((connection.beat / 1_000) as u16),
+        _ => Heartbeat::Milliseconds(connection.beat as u32),
     }
 }
 
-/// Mutes are counted from 1.
+/// Channels are numbered from 1.
 fn counted(k: usize) -> u8 {
     k as u8 + 1
 }
@@ -111,29 +114,27 @@ fn supervision(n: u8, was: &Connection, is: &Connection) -> Vec<Event> {
         events.push(Event::HeardAgain { n });
     }
     if beat(was) != beat(is) {
-        events.push(match beat(is) {
-            Beat {
-                milliseconds: 0, ..
-            } => Event::Unwatched { n },
-            beat => Event::Watched { n, beat },
+        events.push(match (is.beat, beat(is)) {
+            (0, _) => Event::Unwatched { n },
+            (_, beat) => Event::Watched { n, beat },
         });
     }
     events
 }
 
 fn lock(n: u8, k: usize, before: &Record, after: &Record) -> Option<Event> {
-    let mute = counted(k);
+    let channel = counted(k);
     match (before.device.holders[k], after.device.holders[k]) {
         (was, is) if was == is => None,
-        (_, 0) => Some(Event::Unlocked { n, mute }),
-        _ => Some(Event::Locked { n, mute }),
+        (_, 0) => Some(Event::Unlocked { n, channel }),
+        _ => Some(Event::Locked { n, channel }),
     }
 }
 
 fn set(n: u8, k: usize, before: &Record, after: &Record) -> Option<Event> {
     let value = after.device.mutes[k];
-    let mute = counted(k);
-    (before.device.mutes[k] != value).then_some(Event::Set { n, mute, value })
+    let channel = counted(k);
+    (before.device.mutes[k] != value).then_some(Event::Set { n, channel, value })
 }
 
 /// A key that is set as it was is not seen.
@@ -154,14 +155,14 @@ fn subscription(n: u8, was: &Subscription, is: &Subscription) -> Vec<Event> {
         return events;
     }
     if was.used {
-        let mute = words::mute_of_object(was.emitter);
-        events.push(Event::Unsubscribed { n, mute });
+        let channel = words::channel_of_object(was.emitter);
+        events.push(Event::Unsubscribed { n, channel });
     }
     if is.used {
         events.push(Event::Subscribed {
             n,
-            mute: words::mute_of_object(is.emitter),
-            context: is.context_count,
+            channel: words::channel_of_object(is.emitter),
+            bytes: is.context_count,
         });
     }
     events
@@ -170,17 +171,14 @@ fn subscription(n: u8, was: &Subscription, is: &Subscription) -> Vec<Event> {
 #[cfg(test)]
 mod tests {
     use super::*;
+    use melorwyth::call::fresh;
 
     /// Connection 2 is open with a heartbeat of 2 s.
     fn record() -> Record {
-        let mut record = Record::default();
-        record.device.mutes = [2; MUTES];
-        record.device.connections[2] = Connection {
-            live: true,
-            form: 1,
-            beat: 2_000,
-            ..Connection::default()
-        };
+        let mut record = fresh(0);
+        record.device.connections[2].live = true;
+        record.device.connections[2].form = number::FORM_SECONDS;
+        record.device.connections[2].beat = 2_000;
         record
     }
 
@@ -189,7 +187,7 @@ mod tests {
             used: true,
             connection: 2,
             emitter,
-            ..Subscription::default()
+            ..fresh(0).device.subscriptions[0]
         }
     }
 
@@ -210,18 +208,18 @@ mod tests {
         before.device.subscriptions[0] = entry(4_097);
         before.device.connections[2].silence = 4_000;
         let mut after = record();
-        after.device.connections[2].form = 2;
+        after.device.connections[2].form = number::FORM_MILLISECONDS;
         after.device.holders[4] = 3;
         after.device.mutes[4] = 1;
         after.device.subscriptions[0] = entry(4_101);
         let lines = [
             "connection 2 heard again",
             "connection 2 set its heartbeat to 2000 ms: closed after 6000 ms of silence",
-            "connection 2 unlocked mute 1",
-            "connection 2 locked mute 5",
-            "connection 2 muted mute 5",
-            "connection 2 unsubscribed from mute 1",
-            "connection 2 subscribed to mute 5; context of 0 bytes",
+            "connection 2 unlocked channel 1",
+            "connection 2 locked channel 5",
+            "connection 2 muted channel 5",
+            "connection 2 unsubscribed from channel 1",
+            "connection 2 subscribed to channel 5; context of 0 bytes",
         ];
         assert_eq!(told(&heard(2, &before, &after)), lines);
     }
@@ -236,8 +234,8 @@ mod tests {
         assert!(heard(2, &before, &after).is_empty());
         after.device.subscriptions[0].context_count = 1;
         let lines = [
-            "connection 2 unsubscribed from mute 5",
-            "connection 2 subscribed to mute 5; context of 1 byte",
+            "connection 2 unsubscribed from channel 5",
+            "connection 2 subscribed to channel 5; context of 1 byte",
         ];
         assert_eq!(told(&heard(2, &before, &after)), lines);
         let mut written = after;
@@ -249,7 +247,7 @@ mod tests {
     fn supervision_may_be_stopped() {
         let mut after = record();
         after.device.connections[2].beat = 0;
-        after.device.connections[2].form = 0;
+        after.device.connections[2].form = number::FORM_NONE;
         let lines = ["connection 2 set its heartbeat to 0: not supervised"];
         assert_eq!(told(&heard(2, &record(), &after)), lines);
     }
@@ -279,9 +277,9 @@ mod tests {
         before.device.connections[2].silence = 5_999;
         before.device.holders = [0, 3, 1, 0, 3, 0, 0, 0];
         before.held[2] = 1;
-        let after = Record::default();
+        let after = fresh(0);
         let line = "closed connection 2: nothing heard for 6000 ms (3 x 2 s); \
-                    1 undecided byte dropped; mutes 2, 5 are free";
+                    1 undecided byte dropped; channels 2, 5 are free";
         assert_eq!(told(&lapsed(&before, &after, 0b100)), [line]);
     }
 
@@ -306,7 +304,7 @@ mod tests {
         before.device.mutes[4] = 1;
         before.held = [0, 0, 5, 0, 0, 0, 0, 8];
         let line = "reset by key: closed connections 2, 7; 13 undecided bytes dropped; \
-                    mutes 2, 5 are free; mute 5 is unmuted";
+                    channels 2, 5 are free; channel 5 is unmuted";
         assert_eq!(told(&[reset(&before)]), [line]);
     }
 
@@ -318,7 +316,7 @@ mod tests {
         let after = before;
         before.device.subscriptions[3].waiting = true;
         let event = notified(2, &before, &after).unwrap();
-        let line = "notified connection 2: mute 7 is muted";
+        let line = "notified connection 2: channel 7 is muted";
         assert_eq!(event.to_string(), line);
         assert_eq!(notified(2, &after, &after), None);
     }

@@ -1,11 +1,18 @@
 //! The UDP sockets that the armed reset mechanism wants, all on the loopback address.
 
-use compare::record::Mechanism;
+use melorwyth::record::{KEY, Mechanism};
 use std::io;
 use std::net::{Ipv4Addr, SocketAddrV4, UdpSocket};
 
 /// No datagram is longer, so none is cut: the first 24 of 25 bytes would be another datagram.
 const LONGEST: usize = 65_536;
+/// As every device starts.
+const DISARMED: Mechanism = Mechanism {
+    armed: false,
+    key: [0; KEY],
+    address: [0; 4],
+    port: 0,
+};
 
 /// What is open is what the mechanism that was followed last wants, as far as it can be had.
 #[derive(Debug)]
@@ -22,7 +29,7 @@ impl Datagrams {
     pub fn switched(on: bool) -> Datagrams {
         Datagrams {
             on,
-            followed: Mechanism::default(),
+            followed: DISARMED,
             sockets: Vec::new(),
             buffer: vec![0; LONGEST],
         }
@@ -101,7 +108,7 @@ mod tests {
     fn armed(key: u8, address: [u8; 4], port: u16) -> Mechanism {
         Mechanism {
             armed: true,
-            key: [key; 16],
+            key: [key; KEY],
             address,
             port,
         }
@@ -113,7 +120,7 @@ mod tests {
             let addresses = addresses(mechanism).into_iter();
             addresses.map(|address| address.to_string()).collect()
         };
-        assert!(told(&Mechanism::default()).is_empty());
+        assert!(told(&DISARMED).is_empty());
         assert_eq!(told(&armed(1, [0; 4], 5_000)), ["127.0.0.1:5000"]);
         let both = ["127.0.0.1:5000", "239.77.70.14:5000"];
         assert_eq!(told(&armed(1, GROUP, 5_000)), both);
@@ -136,7 +143,7 @@ mod tests {
             [format!("listening for datagrams on 127.0.0.1:{port}")]
         );
         assert!(datagrams.follow(&armed(3, [0; 4], port)).is_empty());
-        assert!(datagrams.follow(&Mechanism::default()).is_empty());
+        assert!(datagrams.follow(&DISARMED).is_empty());
         assert!(UdpSocket::bind((Ipv4Addr::LOCALHOST, port)).is_ok());
     }
 }

@@ -6,10 +6,11 @@ use crate::clock::Clock;
 use crate::datagrams::Datagrams;
 use crate::events::{Event, Why};
 use crate::socket::{Heard, Socket, What};
-use compare::record::CONNECTIONS;
+use crate::witness::{Unwatched, Witness};
+use melorwyth::record::CONNECTIONS;
 use std::fmt::Display;
 use std::io::{self, Write};
-use std::net::{TcpListener, TcpStream};
+use std::net::{SocketAddr, TcpListener, TcpStream};
 use std::sync::atomic::{AtomicBool, Ordering};
 use std::sync::mpsc::{self, Receiver, SyncSender};
 use std::thread::JoinHandle;
@@ -20,12 +21,12 @@ const TURN: Duration = Duration::from_millis(50);
 /// How many pieces may wait for the owner.
 const WAITING: usize = 16;
 
-/// An amplifier on the desk. Its lines are written to `lines`.
+/// An amplifier on the desk. Its lines are written to `lines`, its calls are shown to a witness.
 #[derive(Debug)]
-pub struct Desk<W> {
+pub struct Desk<W, S = Unwatched> {
     listener: TcpListener,
     clock: Clock,
-    amplifier: Amplifier,
+    amplifier: Amplifier<S>,
     sockets: [Option<Socket>; CONNECTIONS],
     datagrams: Datagrams,
     /// Readers of closed sockets that have not ended yet.
@@ -38,12 +39,23 @@ pub struct Desk<W> {
 
 impl<W: Write> Desk<W> {
     pub fn new(listener: TcpListener, clock: Clock, lines: W) -> io::Result<Desk<W>> {
+        Desk::watched(listener, clock, lines, Unwatched)
+    }
+}
+
+impl<W: Write, S: Witness> Desk<W, S> {
+    pub fn watched(
+        listener: TcpListener,
+        clock: Clock,
+        lines: W,
+        witness: S,
+    ) -> io::Result<Desk<W, S>> {
         listener.set_nonblocking(true)?;
         let (outside, inbox) = mpsc::sync_channel(WAITING);
         Ok(Desk {
             listener,
             clock,
-            amplifier: Amplifier::fresh(clock.reading())?,
+            amplifier: Amplifier::fresh(clock.reading(), witness),
             sockets: Default::default(),
             datagrams: Datagrams::switched(true),
             ending: Vec::new(),
@@ -55,7 +67,7 @@ impl<W: Write> Desk<W> {
     }
 
     /// The same with its reset switch off: it listens for no datagram, whatever key is set.
-    pub fn without_reset(mut self) -> Desk<W> {
+    pub fn without_reset(mut self) -> Desk<W, S> {
         self.datagrams = Datagrams::switched(false);
         self
     }
@@ -108,7 +120,7 @@ impl<W: Write> Desk<W> {
             return Ok(false);
         }
         match self.listener.accept() {
-            Ok((stream, _)) => self.open(stream).map(|()| true),
+            Ok((stream, from)) => self.open(stream, from).map(|()| true),
             // nobody is there, or left again before the door was opened
             Err(_) => Ok(false),
         }
@@ -136,12 +148,12 @@ impl<W: Write> Desk<W> {
     }
 
     /// Leaving the stream closes it: that is how a ninth is refused.
-    fn open(&mut self, stream: TcpStream) -> io::Result<()> {
+    fn open(&mut self, stream: TcpStream, from: SocketAddr) -> io::Result<()> {
         self.tick()?;
         let Some(n) = self.amplifier.open()? else {
             return self.say(Event::Full);
         };
-        self.say(Event::Opened { n })?;
+        self.say(Event::Opened { n, from })?;
         self.serial += 1;
         match Socket::start(stream, self.serial, self.outside.clone()) {
             Ok(socket) => self.sockets[usize::from(n)] = Some(socket),
@@ -255,9 +267,9 @@ impl<W: Write> Desk<W> {
 #[cfg(test)]
 mod tests {
     use super::*;
-    use crate::events::Beat;
     use crate::message::{self, Arm, Asking};
     use crate::restart::Restart;
+    use melorwyth::Heartbeat;
     use std::net::{Ipv4Addr, SocketAddrV4, UdpSocket};
     use std::thread;
     use std::time::Instant;
@@ -279,9 +291,8 @@ mod tests {
         Heard { serial, what }
     }
 
-    fn keep_alive(milliseconds: u64) -> Vec<u8> {
-        let form = 2;
-        message::keep_alive(Beat { form, milliseconds }).unwrap()
+    fn keep_alive(milliseconds: u32) -> Vec<u8> {
+        message::keep_alive(Heartbeat::Milliseconds(milliseconds)).unwrap()
     }
 
     /// What the first socket still says locks nothing and closes nothing of the one that has its number now.

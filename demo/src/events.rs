@@ -1,58 +1,61 @@
 //! What happens at the amplifier, one line each.
 
 use crate::words;
+use melorwyth::{Fault, Heartbeat, Status};
 use std::fmt;
-use std::net::Ipv4Addr;
+use std::net::{Ipv4Addr, SocketAddr};
 
-/// Mutes are counted from 1, connections from 0, as the scope paper numbers them.
+/// Channels are numbered from 1, connections from 0.
 #[derive(Clone, Debug, PartialEq, Eq)]
 pub enum Event {
     Opened {
         n: u8,
+        /// Who has this number now: a status tells no one.
+        from: SocketAddr,
     },
     Full,
     Watched {
         n: u8,
-        beat: Beat,
+        beat: Heartbeat,
     },
     Unwatched {
         n: u8,
     },
     Locked {
         n: u8,
-        mute: u8,
+        channel: u8,
     },
     Unlocked {
         n: u8,
-        mute: u8,
+        channel: u8,
     },
     Set {
         n: u8,
-        mute: u8,
+        channel: u8,
         value: u8,
     },
     Subscribed {
         n: u8,
-        mute: u8,
-        /// How many bytes its context has: what they say is the controller's own.
-        context: u8,
+        channel: u8,
+        /// How many its context has: what they say is the controller's own.
+        bytes: u8,
     },
     Unsubscribed {
         n: u8,
-        mute: u8,
+        channel: u8,
     },
     Answered {
         n: u8,
-        status: u8,
+        status: Status,
     },
     Notified {
         n: u8,
-        mute: u8,
+        channel: u8,
         value: u8,
     },
     KeptAlive {
         n: u8,
-        beat: Beat,
+        beat: Heartbeat,
     },
     Silent {
         n: u8,
@@ -77,23 +80,16 @@ pub enum Event {
     },
 }
 
-/// A heartbeat: its form, and H in milliseconds.
-#[derive(Clone, Copy, Debug, PartialEq, Eq)]
-pub struct Beat {
-    pub form: u8,
-    pub milliseconds: u64,
-}
-
 /// Why a connection was closed.
 #[derive(Clone, Copy, Debug, PartialEq, Eq)]
 pub enum Why {
     /// By a tick: nothing whole was heard for so long.
     Silence {
         silence: u64,
-        beat: Beat,
+        beat: Heartbeat,
     },
     /// By a delivery.
-    Fault(u8),
+    Fault(Fault),
     /// By the host, as everything below.
     HungUp,
     Broken,
@@ -121,40 +117,40 @@ pub struct Place {
 pub struct Ended {
     pub closed: Vec<u8>,
     pub left: Left,
-    /// The mutes that were muted before.
+    /// The channels that were muted before.
     pub unmuted: Vec<u8>,
 }
 
 impl fmt::Display for Event {
     fn fmt(&self, f: &mut fmt::Formatter) -> fmt::Result {
         match self {
-            Event::Opened { n } => write!(f, "opened connection {n}"),
+            Event::Opened { n, from } => write!(f, "opened connection {n} for {from}"),
             Event::Full => write!(f, "refused a connection: all 8 are open"),
-            Event::Watched { n, beat } => {
-                let limit = 3 * beat.milliseconds;
-                write!(f, "connection {n} set its heartbeat to {beat}")?;
-                write!(f, ": closed after {limit} ms of silence")
-            }
+            Event::Watched { n, beat } => watched(f, *n, *beat),
             Event::Unwatched { n } => {
                 write!(f, "connection {n} set its heartbeat to 0: not supervised")
             }
-            Event::Locked { n, mute } => write!(f, "connection {n} locked mute {mute}"),
-            Event::Unlocked { n, mute } => write!(f, "connection {n} unlocked mute {mute}"),
-            Event::Set { n, mute, value } => {
-                write!(f, "connection {n} {} mute {mute}", words::value(*value))
+            Event::Locked { n, channel } => write!(f, "connection {n} locked channel {channel}"),
+            Event::Unlocked { n, channel } => {
+                write!(f, "connection {n} unlocked channel {channel}")
             }
-            Event::Subscribed { n, mute, context } => subscribed(f, *n, *mute, *context),
-            Event::Unsubscribed { n, mute } => {
-                write!(f, "connection {n} unsubscribed from mute {mute}")
+            Event::Set { n, channel, value } => {
+                let set = words::value(*value);
+                write!(f, "connection {n} {set} channel {channel}")
             }
-            Event::Answered { n, status } => {
-                write!(f, "answered connection {n}: {}", words::status(*status))
+            Event::Subscribed { n, channel, bytes } => subscribed(f, *n, *channel, *bytes),
+            Event::Unsubscribed { n, channel } => {
+                write!(f, "connection {n} unsubscribed from channel {channel}")
             }
-            Event::Notified { n, mute, value } => {
+            Event::Answered { n, status } => write!(f, "answered connection {n}: {status}"),
+            Event::Notified { n, channel, value } => {
                 let value = words::value(*value);
-                write!(f, "notified connection {n}: mute {mute} is {value}")
+                write!(f, "notified connection {n}: channel {channel} is {value}")
             }
-            Event::KeptAlive { n, beat } => write!(f, "sent connection {n} a keep-alive of {beat}"),
+            Event::KeptAlive { n, beat } => {
+                let beat = words::beat(*beat);
+                write!(f, "sent connection {n} a keep-alive of {beat}")
+            }
             Event::Silent { n, since } => write!(f, "connection {n} silent since {since} ms"),
             Event::HeardAgain { n } => write!(f, "connection {n} heard again"),
             Event::Closed { n, why, left } => write!(f, "closed connection {n}: {why}{left}"),
@@ -167,24 +163,27 @@ impl fmt::Display for Event {
     }
 }
 
-fn subscribed(f: &mut fmt::Formatter, n: u8, mute: u8, context: u8) -> fmt::Result {
-    let context = words::context_count(usize::from(context));
-    write!(f, "connection {n} subscribed to mute {mute}; {context}")
+fn watched(f: &mut fmt::Formatter, n: u8, beat: Heartbeat) -> fmt::Result {
+    let limit = 3 * beat.milliseconds();
+    let beat = words::beat(beat);
+    write!(f, "connection {n} set its heartbeat to {beat}")?;
+    write!(f, ": closed after {limit} ms of silence")
 }
 
-impl fmt::Display for Beat {
-    fn fmt(&self, f: &mut fmt::Formatter) -> fmt::Result {
-        f.write_str(&words::beat(self.form, self.milliseconds))
-    }
+fn subscribed(f: &mut fmt::Formatter, n: u8, channel: u8, bytes: u8) -> fmt::Result {
+    let context = words::context_count(usize::from(bytes));
+    write!(f, "connection {n} subscribed to channel {channel}")?;
+    write!(f, "; {context}")
 }
 
 impl fmt::Display for Why {
     fn fmt(&self, f: &mut fmt::Formatter) -> fmt::Result {
         match self {
             Why::Silence { silence, beat } => {
+                let beat = words::beat(*beat);
                 write!(f, "nothing heard for {silence} ms (3 x {beat})")
             }
-            Why::Fault(number) => f.write_str(&words::fault(*number)),
+            Why::Fault(fault) => write!(f, "{fault}"),
             Why::HungUp => write!(f, "the controller hung up"),
             Why::Broken => write!(f, "the network broke it"),
             Why::Stalled => write!(f, "it does not take what it is sent"),
@@ -219,10 +218,7 @@ impl fmt::Display for Left {
 mod tests {
     use super::*;
 
-    const BEAT: Beat = Beat {
-        form: 1,
-        milliseconds: 2_000,
-    };
+    const BEAT: Heartbeat = Heartbeat::Seconds(2);
 
     fn said(event: Event, line: &str) {
         assert_eq!(event.to_string(), line);
@@ -230,16 +226,29 @@ mod tests {
 
     #[test]
     fn lines_say_who_did_what() {
-        let (n, mute, value, since) = (2, 5, 1, 4_000);
-        said(Event::Opened { n }, "opened connection 2");
+        let (n, channel, value, since) = (2, 5, 1, 4_000);
+        let from = SocketAddr::from((Ipv4Addr::LOCALHOST, 50_712));
+        said(
+            Event::Opened { n, from },
+            "opened connection 2 for 127.0.0.1:50712",
+        );
         said(Event::Full, "refused a connection: all 8 are open");
         said(
             Event::Watched { n, beat: BEAT },
             "connection 2 set its heartbeat to 2 s: closed after 6000 ms of silence",
         );
-        said(Event::Locked { n, mute }, "connection 2 locked mute 5");
-        said(Event::Unlocked { n, mute }, "connection 2 unlocked mute 5");
-        said(Event::Set { n, mute, value }, "connection 2 muted mute 5");
+        said(
+            Event::Locked { n, channel },
+            "connection 2 locked channel 5",
+        );
+        said(
+            Event::Unlocked { n, channel },
+            "connection 2 unlocked channel 5",
+        );
+        said(
+            Event::Set { n, channel, value },
+            "connection 2 muted channel 5",
+        );
         said(
             Event::KeptAlive { n, beat: BEAT },
             "sent connection 2 a keep-alive of 2 s",
@@ -252,12 +261,12 @@ mod tests {
 
     #[test]
     fn a_subscription_names_the_length_of_its_context() {
-        let subscribed = |context| Event::Subscribed {
+        let subscribed = |bytes| Event::Subscribed {
             n: 2,
-            mute: 5,
-            context,
+            channel: 5,
+            bytes,
         };
-        let to = "connection 2 subscribed to mute 5; context of";
+        let to = "connection 2 subscribed to channel 5; context of";
         said(subscribed(0), &format!("{to} 0 bytes"));
         said(subscribed(1), &format!("{to} 1 byte"));
         said(subscribed(64), &format!("{to} 64 bytes"));
@@ -295,7 +304,7 @@ mod tests {
         said(
             reset(&[0, 2], 6, &[1, 5], &[5]),
             "reset by key: closed connections 0, 2; 6 undecided bytes dropped; \
-             mutes 1, 5 are free; mute 5 is unmuted",
+             channels 1, 5 are free; channel 5 is unmuted",
         );
         let length = 23;
         said(
@@ -325,20 +334,19 @@ mod tests {
                 &[5],
             ),
             "closed connection 1: nothing heard for 6000 ms (3 x 2 s); \
-             13 undecided bytes dropped; mute 5 is free",
+             13 undecided bytes dropped; channel 5 is free",
         );
         said(
-            closed(Why::Fault(4), 0, &[]),
-            "closed connection 1: fault 4 (type above 4)",
+            closed(Why::Fault(Fault::Type), 0, &[]),
+            "closed connection 1: pduType is above 4 (fault 4)",
         );
         said(
-            closed(Why::Fault(6), 0, &[5]),
-            "closed connection 1: fault 6 (data that do not fit their type, \
-             a count without bytes, or a context too long); mute 5 is free",
+            closed(Why::Fault(Fault::Start), 0, &[5]),
+            "closed connection 1: the first byte is not 3B (fault 1); channel 5 is free",
         );
         said(
             closed(Why::HungUp, 0, &[2, 8]),
-            "closed connection 1: the controller hung up; mutes 2, 8 are free",
+            "closed connection 1: the controller hung up; channels 2, 8 are free",
         );
     }
 }

@@ -1,4 +1,4 @@
-//! An amplifier on the desk: a host over the library's archive, on real
+//! An amplifier on the desk: a host over the crate `melorwyth`, on real
 //! sockets of the loopback address; and a controller to ask it.
 
 #![deny(unsafe_code)]
@@ -9,6 +9,7 @@ pub mod changes;
 pub mod clock;
 pub mod datagrams;
 pub mod desk;
+pub mod entry;
 pub mod events;
 #[allow(unsafe_code)]
 pub mod interrupt;
@@ -18,6 +19,7 @@ pub mod script;
 pub mod session;
 pub mod socket;
 pub mod tablet;
+pub mod witness;
 pub mod words;
 
 /// The port of the loopback address that both programs take when none is named.

@@ -1,18 +1,17 @@
 //! Reset by key from outside: the datagram, and where it may be sent.
 
+use melorwyth::record::{DATAGRAM, KEY, SENTINEL};
 use std::fmt;
 use std::io::{self, ErrorKind};
 use std::net::{Ipv4Addr, SocketAddrV4, UdpSocket};
 use std::time::Duration;
 
-/// What a datagram that resets begins with; the key follows.
-const SENTINEL: [u8; 8] = [0xDE, 0xAF, 0xDA, 0xDA, 0xCA, 0xFE, 0xBA, 0xBE];
 /// How long a port that nobody listens on may take to say so.
 const ECHO: Duration = Duration::from_millis(100);
 
 pub const USAGE: &str = "usage: restart KEY PORT [HOST-OR-GROUP]   (without: 127.0.0.1)";
 
-pub type Key = [u8; 16];
+pub type Key = [u8; KEY];
 
 /// A datagram to be sent.
 #[derive(Clone, Copy, Debug, PartialEq, Eq)]
@@ -48,7 +47,7 @@ impl fmt::Display for Restart {
     fn fmt(&self, f: &mut fmt::Formatter) -> fmt::Result {
         write!(
             f,
-            "sends 24 bytes to {} by UDP, which answers nothing",
+            "sends {DATAGRAM} bytes to {} by UDP, which answers nothing",
             self.to
         )
     }

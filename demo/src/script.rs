@@ -1,13 +1,13 @@
 //! The controller's small language: words, in arguments or lines.
 
-use crate::events::Beat;
 use crate::message::{Arm, Asking, Subscribe};
 use crate::restart::{self, Restart};
-use compare::record::CONTEXT;
+use melorwyth::Heartbeat;
+use melorwyth::record::CONTEXT;
 use std::iter::Peekable;
 use std::time::Duration;
 
-/// The technician's question: a tablet locks mute 5, begins a message and dies.
+/// The technician's question: a tablet locks channel 5, begins a message and dies.
 pub const QUESTION: &str = "as tablet beat 2 mute 5 lock 5 bytes 3B0001000000 dead wait 500 as technician await 5 unmute 5 quit";
 
 /// Any key does for a show.
@@ -27,11 +27,11 @@ pub fn restarting(port: u16) -> String {
 }
 
 pub const HELP: &str =
-    "  lock N, unlock N, mute N, unmute N, get N, subscribe N, unsubscribe N   ask mute N, 1 to 8
+    "  lock N, unlock N, mute N, unmute N, get N, subscribe N, unsubscribe N   ask channel N, 1 to 8: object 4096 + N
   subscribe N context HEX, subscribe N text WORD   with a context of up to 64 bytes, which each notification brings back
   await N      ask for the lock every second until it is given
-  announce N   lock mute N, announcing one parameter without a byte of it: the amplifier closes the connection
-  overlong N   subscribe to mute N with a context of 65 bytes, one too many: the amplifier answers status 7
+  announce N   lock channel N, announcing one parameter without a byte of it: the amplifier closes the connection
+  overlong N   subscribe to channel N with a context of 65 bytes, one too many: the amplifier answers status 7
   beat S       set the heartbeat in seconds and keep alive; 'beat 200ms' in milliseconds; 0: no more
   arm KEY PORT [ADDRESS]       set the reset key, 32 hex digits, a UDP port and perhaps a multicast group
   restart KEY PORT [ADDRESS]   send the datagram that resets, by UDP to 127.0.0.1 or to the group
@@ -50,7 +50,7 @@ pub enum Command {
     Subscribe(Subscribe),
     Announce(u8),
     Overlong(u8),
-    Beat(Beat),
+    Beat(Heartbeat),
     Bytes(Vec<u8>),
     Arm(Arm),
     Restart(Restart),
@@ -96,10 +96,10 @@ where
     }
     let argument = words.next().unwrap_or_default();
     let parsed = match (word, asking) {
-        (_, Some(asking)) => mute(argument).map(|mute| Command::Ask(asking, mute)),
-        ("await", _) => mute(argument).map(Command::Await),
-        ("announce", _) => mute(argument).map(Command::Announce),
-        ("overlong", _) => mute(argument).map(Command::Overlong),
+        (_, Some(asking)) => channel(argument).map(|channel| Command::Ask(asking, channel)),
+        ("await", _) => channel(argument).map(Command::Await),
+        ("announce", _) => channel(argument).map(Command::Announce),
+        ("overlong", _) => channel(argument).map(Command::Overlong),
         ("beat", _) => beat(argument).map(Command::Beat),
         ("bytes", _) => bytes(argument).map(Command::Bytes),
         ("wait", _) => wait(argument).map(Command::Wait),
@@ -108,21 +108,21 @@ where
     parsed.ok_or_else(|| format!("'{word} {argument}' is no command"))
 }
 
-/// A mute, and perhaps a context: no command is named as its two forms are.
+/// A channel, and perhaps a context: no command is named as its two forms are.
 fn subscribe<'a, W>(words: &mut Peekable<W>) -> Result<Command, String>
 where
     W: Iterator<Item = &'a str>,
 {
     let argument = words.next().unwrap_or_default();
-    let Some(mute) = mute(argument) else {
+    let Some(channel) = channel(argument) else {
         return Err(format!("'subscribe {argument}' is no command"));
     };
     let context = match words.next_if(|word| ["context", "text"].contains(word)) {
         Some(form) => context(form, words.next().unwrap_or_default()),
         None => Ok(Vec::new()),
     };
-    let context = context.map_err(|wrong| format!("subscribe {mute}: {wrong}"))?;
-    Ok(Command::Subscribe(Subscribe { mute, context }))
+    let context = context.map_err(|wrong| format!("subscribe {channel}: {wrong}"))?;
+    Ok(Command::Subscribe(Subscribe { channel, context }))
 }
 
 /// The bytes of a context in the form that is named: hex digits may be letters, so that a word does not tell its form.
@@ -188,16 +188,17 @@ fn asking(word: &str) -> Option<Asking> {
     })
 }
 
-fn mute(text: &str) -> Option<u8> {
-    text.parse().ok().filter(|mute| (1..=8).contains(mute))
+fn channel(text: &str) -> Option<u8> {
+    text.parse()
+        .ok()
+        .filter(|channel| (1..=8).contains(channel))
 }
 
-fn beat(text: &str) -> Option<Beat> {
-    let (form, milliseconds) = match text.strip_suffix("ms") {
-        Some(value) => (2, u64::from(value.parse::<u32>().ok()?)),
-        None => (1, u64::from(text.parse::<u16>().ok()?) * 1_000),
-    };
-    Some(Beat { form, milliseconds })
+fn beat(text: &str) -> Option<Heartbeat> {
+    Some(match text.strip_suffix("ms") {
+        Some(value) => Heartbeat::Milliseconds(value.parse().ok()?),
+        None => Heartbeat::Seconds(text.parse().ok()?),
+    })
 }
 
 fn wait(text: &str) -> Option<Duration> {
@@ -219,21 +220,13 @@ mod tests {
 
     #[test]
     fn words_make_commands() {
-        let seconds = Beat {
-            form: 1,
-            milliseconds: 2_000,
-        };
-        let milliseconds = Beat {
-            form: 2,
-            milliseconds: 200,
-        };
         let commands = parse(
             "as panel beat 2 beat 200ms lock 5\nannounce 1 announce 8 bytes 3b00fF wait 70 dead quit",
         );
         let expected = vec![
             Command::As("panel".to_string()),
-            Command::Beat(seconds),
-            Command::Beat(milliseconds),
+            Command::Beat(Heartbeat::Seconds(2)),
+            Command::Beat(Heartbeat::Milliseconds(200)),
             Command::Ask(Asking::Lock, 5),
             Command::Announce(1),
             Command::Announce(8),
@@ -270,9 +263,9 @@ mod tests {
 
     #[test]
     fn a_subscription_has_perhaps_a_context() {
-        let subscribe = |mute, context: &[u8]| {
+        let subscribe = |channel, context: &[u8]| {
             let context = context.to_vec();
-            Command::Subscribe(Subscribe { mute, context })
+            Command::Subscribe(Subscribe { channel, context })
         };
         let longest = "ab".repeat(64);
         let text = format!(
@@ -322,7 +315,7 @@ mod tests {
         let restarts = |command: &Command| matches!(command, Command::Restart(_));
         let place = commands.iter().position(restarts).unwrap();
         let after = &commands[place..];
-        assert!((1..=8).all(|mute| after.contains(&Command::Await(mute))));
+        assert!((1..=8).all(|channel| after.contains(&Command::Await(channel))));
         assert_eq!(after.last(), Some(&Command::Quit));
     }
 

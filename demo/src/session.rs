@@ -1,15 +1,14 @@
 //! A controller at work: commands one after another, keeping alive between.
 
-use crate::amplifier::Refused;
 use crate::clock::Clock;
-use crate::events::Beat;
 use crate::message::{self, Arm, Asking, Said, Subscribe};
 use crate::restart::Restart;
 use crate::script::{self, Command};
 use crate::socket::{Heard, Socket, What};
 use crate::tablet::Tablet;
 use crate::words;
-use compare::record::CONTEXT;
+use melorwyth::record::CONTEXT;
+use melorwyth::{Heartbeat, Refusal, Status};
 use std::fmt::Display;
 use std::io::{self, Write};
 use std::net::{SocketAddr, TcpStream};
@@ -101,11 +100,11 @@ impl<W: Write> Session<W> {
 
     fn command(&mut self, command: Command) -> io::Result<Next> {
         match command {
-            Command::Ask(asking, mute) => drop(self.ask(asking, mute)?),
-            Command::Await(mute) => self.ask_again(mute)?,
+            Command::Ask(asking, channel) => drop(self.ask(asking, channel)?),
+            Command::Await(channel) => self.ask_again(channel)?,
             Command::Subscribe(subscribe) => self.subscribe(&subscribe)?,
-            Command::Announce(mute) => self.announce(mute)?,
-            Command::Overlong(mute) => self.overlong(mute)?,
+            Command::Announce(channel) => self.announce(channel)?,
+            Command::Overlong(channel) => self.overlong(channel)?,
             Command::Beat(beat) => self.beat(beat)?,
             Command::Bytes(bytes) => {
                 self.current()?;
@@ -127,10 +126,10 @@ impl<W: Write> Session<W> {
     }
 
     /// Asks for the lock until it is given.
-    fn ask_again(&mut self, mute: u8) -> io::Result<()> {
+    fn ask_again(&mut self, channel: u8) -> io::Result<()> {
         let start = Instant::now();
         let mut waited = None;
-        while self.ask(Asking::Lock, mute)? != 0 {
+        while self.ask(Asking::Lock, channel)? != Status::CarriedOut {
             let asked = start.elapsed().as_millis() % AGAIN.as_millis();
             let rest = AGAIN.saturating_sub(Duration::from_millis(asked as u64));
             self.attend(rest, |_| false)?;
@@ -143,33 +142,35 @@ impl<W: Write> Session<W> {
     }
 
     /// Asks for one thing and waits for the reply; answers its status.
-    fn ask(&mut self, asking: Asking, mute: u8) -> io::Result<u8> {
-        let name = format!("{asking:?} {mute}").to_lowercase();
-        let asked = |handle| message::command(handle, asking, mute);
+    fn ask(&mut self, asking: Asking, channel: u8) -> io::Result<Status> {
+        let name = format!("{asking:?} {channel}").to_lowercase();
+        let asked = |handle| message::command(handle, asking, channel);
         let (status, parameters) = self.exchange(&name, asked)?;
         let value = match (asking, parameters.as_slice()) {
             (Asking::Get, [value]) => format!(", {}", words::value(*value)),
             _ => String::new(),
         };
-        let status_told = words::status(status);
-        self.say(format_args!("{name}: {status_told}{value}"))?;
+        self.say(format_args!("{name}: {status}{value}"))?;
         Ok(status)
     }
 
     fn subscribe(&mut self, subscribe: &Subscribe) -> io::Result<()> {
-        let Subscribe { mute, context } = subscribe;
+        let Subscribe { channel, context } = subscribe;
         let name = match words::hex(context) {
-            hex if hex.is_empty() => format!("subscribe {mute}"),
-            hex => format!("subscribe {mute} context {hex}"),
+            hex if hex.is_empty() => format!("subscribe {channel}"),
+            hex => format!("subscribe {channel} context {hex}"),
         };
         self.ask_plainly(&name, |handle| message::subscribing(handle, subscribe))
     }
 
     /// Sends a context that `subscribe` does not take; the writer builds it, since only the amplifier looks into a command.
-    fn overlong(&mut self, mute: u8) -> io::Result<()> {
+    fn overlong(&mut self, channel: u8) -> io::Result<()> {
         let context = vec![0; CONTEXT + 1];
-        let name = format!("overlong {mute}: {}", words::context_count(context.len()));
-        let subscribe = Subscribe { mute, context };
+        let name = format!(
+            "overlong {channel}: {}",
+            words::context_count(context.len())
+        );
+        let subscribe = Subscribe { channel, context };
         self.ask_plainly(&name, |handle| message::subscribing(handle, &subscribe))
     }
 
@@ -184,10 +185,9 @@ impl<W: Write> Session<W> {
     fn ask_plainly(
         &mut self,
         name: &str,
-        command: impl Fn(u32) -> Result<Vec<u8>, Refused>,
+        command: impl Fn(u32) -> Result<Vec<u8>, Refusal>,
     ) -> io::Result<()> {
         let (status, _) = self.exchange(name, command)?;
-        let status = words::status(status);
         self.say(format_args!("{name}: {status}"))
     }
 
@@ -195,8 +195,8 @@ impl<W: Write> Session<W> {
     fn exchange(
         &mut self,
         name: &str,
-        command: impl Fn(u32) -> Result<Vec<u8>, Refused>,
-    ) -> io::Result<(u8, Vec<u8>)> {
+        command: impl Fn(u32) -> Result<Vec<u8>, Refusal>,
+    ) -> io::Result<(Status, Vec<u8>)> {
         let asked = self.next_handle()?;
         self.send(&command(asked)?)?;
         match self.attend_reply(asked)? {
@@ -219,24 +219,24 @@ impl<W: Write> Session<W> {
     }
 
     /// Sends what the writer does not build, and tells what comes of it; a closure is what is wanted, and no error.
-    fn announce(&mut self, mute: u8) -> io::Result<()> {
+    fn announce(&mut self, channel: u8) -> io::Result<()> {
         let asked = self.next_handle()?;
-        let bytes = message::announcing(asked, mute)?;
+        let bytes = message::announcing(asked, channel)?;
         let length = bytes.len();
-        let refusal = message::refusal(&bytes).map_or("no refusal".to_string(), words::refusal);
+        let refusal = or_nothing(message::refusal(&bytes));
         self.say(format_args!(
-            "announce {mute}: one parameter and no byte of it: the writer gives {refusal}; \
+            "announce {channel}: one parameter and no byte of it; the writer says: {refusal}; \
              sends {length} bytes all the same"
         ))?;
         self.send(&bytes)?;
         let came = match self.attend_reply(asked)? {
-            Came::Said(Said::Reply { status, .. }) => words::status(status),
+            Came::Said(Said::Reply { status, .. }) => status.to_string(),
             Came::Closed => "closed".to_string(),
             _ => "neither closed nor answered".to_string(),
         };
-        let fault = message::fault(&bytes).map_or("no fault".to_string(), words::fault);
+        let fault = or_nothing(message::fault(&bytes));
         self.say(format_args!(
-            "announce {mute}: {came}; the reader gives these bytes {fault}"
+            "announce {channel}: {came}; the reader says: {fault}"
         ))
     }
 
@@ -266,12 +266,13 @@ impl<W: Write> Session<W> {
         }
     }
 
-    fn beat(&mut self, beat: Beat) -> io::Result<()> {
+    fn beat(&mut self, beat: Heartbeat) -> io::Result<()> {
+        let told = words::beat(beat);
         let bytes = self.current()?.set_beat(beat)?;
         self.send(&bytes)?;
         match self.attend(PATIENCE, |said| *said == Said::KeepAlive(beat))? {
-            Came::Said(_) => self.say(format_args!("beat {beat}: answered")),
-            came => Err(self.missing(&format!("beat {beat}"), &came)),
+            Came::Said(_) => self.say(format_args!("beat {told}: answered")),
+            came => Err(self.missing(&format!("beat {told}"), &came)),
         }
     }
 
@@ -367,7 +368,7 @@ impl<W: Write> Session<W> {
                         came = Came::Said(said);
                     }
                 }
-                Err(fault) => return self.part(k, &words::fault(fault)),
+                Err(fault) => return self.part(k, &fault.to_string()),
             }
         }
     }
@@ -388,14 +389,14 @@ impl<W: Write> Session<W> {
         let told = match said {
             Said::Reply { .. } => return Ok(()),
             Said::KeepAlive(_) if self.tablets[k].answered() => return Ok(()),
-            Said::KeepAlive(beat) => format!("the amplifier keeps alive, {beat}"),
+            Said::KeepAlive(beat) => format!("the amplifier keeps alive, {}", words::beat(*beat)),
             Said::Notification {
-                mute,
+                channel,
                 value,
                 context,
             } => {
                 let (value, context) = (words::value(*value), words::context(context));
-                format!("notified: mute {mute} is {value}; {context}")
+                format!("notified: channel {channel} is {value}; {context}")
             }
             Said::Strange => "a message that no amplifier sends".to_string(),
         };
@@ -414,4 +415,8 @@ impl<W: Write> Session<W> {
         self.lines.write_all(line.as_bytes())?;
         self.lines.flush()
     }
+}
+
+fn or_nothing(said: Option<impl Display>) -> String {
+    said.map_or("nothing".to_string(), |said| said.to_string())
 }

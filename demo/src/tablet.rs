@@ -1,9 +1,9 @@
 //! One connection of a controller.
 
-use crate::amplifier::Refused;
-use crate::events::{Beat, Why};
+use crate::events::Why;
 use crate::message::{self, Front, Said};
 use crate::socket::Socket;
+use melorwyth::{Fault, Heartbeat, Refusal};
 use std::time::{Duration, Instant};
 
 #[derive(Debug)]
@@ -14,7 +14,7 @@ pub struct Tablet {
     pub dead: bool,
     /// The handle of the command asked last.
     pub handle: u32,
-    beat: Option<Beat>,
+    beat: Option<Heartbeat>,
     /// When a keep-alive was sent last.
     beaten: Instant,
     /// How many keep-alives have not been answered.
@@ -37,12 +37,12 @@ impl Tablet {
     }
 
     /// Sets the heartbeat; from now on it is kept.
-    pub fn set_beat(&mut self, beat: Beat) -> Result<Vec<u8>, Refused> {
-        self.beat = (beat.milliseconds > 0).then_some(beat);
+    pub fn set_beat(&mut self, beat: Heartbeat) -> Result<Vec<u8>, Refusal> {
+        self.beat = (beat.milliseconds() > 0).then_some(beat);
         self.keep_alive(beat)
     }
 
-    fn keep_alive(&mut self, beat: Beat) -> Result<Vec<u8>, Refused> {
+    fn keep_alive(&mut self, beat: Heartbeat) -> Result<Vec<u8>, Refusal> {
         self.beaten = Instant::now();
         self.unanswered += 1;
         message::keep_alive(beat)
@@ -51,7 +51,7 @@ impl Tablet {
     /// When the next keep-alive is to be sent: two in a heartbeat, so that one may be late.
     pub fn next_beat(&self) -> Option<Instant> {
         let beat = self.beat.filter(|_| !self.dead)?;
-        let half = Duration::from_millis((beat.milliseconds / 2).max(1));
+        let half = Duration::from_millis((beat.milliseconds() / 2).max(1));
         self.beaten.checked_add(half)
     }
 
@@ -73,7 +73,7 @@ impl Tablet {
     }
 
     /// The next whole message, or the fault in it.
-    pub fn next_said(&mut self) -> Result<Option<Said>, u8> {
+    pub fn next_said(&mut self) -> Result<Option<Said>, Fault> {
         match message::read(&self.undecided) {
             Front::Part => Ok(None),
             Front::Fault(fault) => Err(fault),

@@ -4,15 +4,20 @@ mod announce;
 mod context;
 mod hall;
 mod reset;
+mod watch;
+mod wire;
 
-use compare::harness::traffic;
 use demo::script;
 use demo::session::{Next, Session};
-use hall::{Hall, Log, PATIENCE, Peer, get, lock, notified, object, reply, set, subscribe};
+use hall::{Hall, Log, PATIENCE, Peer, bad_data};
 use std::io::{BufRead, BufReader, Write};
 use std::process::{Command, Stdio};
 use std::thread;
 use std::time::{Duration, Instant};
+use wire::{
+    asked, get, identifications, lock, message, milliseconds, notified, reply, response, seconds,
+    set, subscribe,
+};
 
 /// A tick may come late on a busy machine, never early.
 const LATE: u32 = 450;
@@ -31,23 +36,25 @@ fn bytes_cut_one_by_one_and_mixed() {
         let (k, n) = (place / 3, place % 3);
         peers[n].send(&talks[n][k..=k]);
     }
-    let both = [&reply(7, 0, 0, &[])[10..], &reply(8, 0, 0, &[])[10..]].concat();
+    let both = message(3, &[7, 8].map(|handle| response(handle, 0, 0, &[])));
     for (n, peer) in peers.iter_mut().enumerate() {
-        let mute = n + 1;
-        peer.expect(&traffic::keep_alive(1, 30));
-        peer.expect(&traffic::framed(1, 9 + both.len() as u32, 3, 2, &both));
+        let channel = n + 1;
+        peer.expect(&seconds(30));
+        peer.expect(&both);
         peer.expect(&reply(9, 0, 1, &[1]));
-        hall.log.line(&format!("connection {n} locked mute {mute}"));
-        hall.log.line(&format!("connection {n} muted mute {mute}"));
+        hall.log
+            .line(&format!("connection {n} locked channel {channel}"));
+        hall.log
+            .line(&format!("connection {n} muted channel {channel}"));
     }
     hall.end();
 }
 
 /// A heartbeat of 30 s; lock and set in one message; get.
-fn talk(mute: u32) -> Vec<u8> {
-    let beat = traffic::keep_alive(1, 30);
-    let two = traffic::message(1, &[lock(7, mute), set(8, mute, 1)]);
-    let one = traffic::message(1, &[get(9, mute)]);
+fn talk(channel: u32) -> Vec<u8> {
+    let beat = seconds(30);
+    let two = message(1, &[lock(7, channel), set(8, channel, 1)]);
+    let one = asked(&get(9, channel));
     [beat, two, one].concat()
 }
 
@@ -59,7 +66,7 @@ fn a_dead_controller_is_closed_at_three_heartbeats() {
     let mut technician = hall.connect(1);
     tablet.beat(200);
     tablet.ask(&lock(7, 5), 0);
-    let heard = hall.log.time("connection 0 locked mute 5");
+    let heard = hall.log.time("connection 0 locked channel 5");
     technician.ask(&lock(1, 5), 3);
     let since = format!("connection 0 silent since {heard} ms");
     let silent = hall.log.time(&since);
@@ -69,14 +76,15 @@ fn a_dead_controller_is_closed_at_three_heartbeats() {
     assert!((400..400 + LATE).contains(&(silent - heard)));
     assert!((600..600 + LATE).contains(&(closed - heard)), "{line}");
     let silence = closed - heard;
-    let why = format!("nothing heard for {silence} ms (3 x 200 ms); mute 5 is free");
+    let why = format!("nothing heard for {silence} ms (3 x 200 ms); channel 5 is free");
     assert_eq!(line, format!("closed connection 0: {why}"));
     // it sent its own heartbeat meanwhile
-    tablet.expect(&traffic::keep_alive(2, 200));
-    tablet.expect(&traffic::keep_alive(2, 200));
+    tablet.expect(&milliseconds(200));
+    tablet.expect(&milliseconds(200));
     assert!(tablet.is_closed());
-    assert!(hall.log.has("answered connection 1: status 3"));
-    assert!(hall.end().contains("connection 1 locked mute 5"));
+    let answered = "answered connection 1: held by another connection (status 3)";
+    assert!(hall.log.has(answered));
+    assert!(hall.end().contains("connection 1 locked channel 5"));
 }
 
 /// A dying radio lets a byte through now and then.
@@ -86,16 +94,16 @@ fn half_a_message_does_not_put_closing_off() {
     let mut tablet = hall.connect(0);
     tablet.beat(200);
     tablet.ask(&lock(7, 5), 0);
-    let heard = hall.log.time("connection 0 locked mute 5");
-    let message = traffic::message(1, &[lock(8, 5)]);
-    for byte in &message[..13] {
+    let heard = hall.log.time("connection 0 locked channel 5");
+    let half = &asked(&lock(8, 5))[..13];
+    for byte in half {
         // the amplifier may have closed it already
         let _ = tablet.stream.write(&[*byte]);
         pause(40);
     }
     let (closed, line) = hall.log.line("closed connection 0");
     assert!((600..600 + LATE).contains(&(closed - heard)), "{line}");
-    assert!(line.contains("undecided bytes dropped; mute 5 is free"));
+    assert!(line.contains("undecided bytes dropped; channel 5 is free"));
     hall.end();
 }
 
@@ -128,7 +136,7 @@ fn the_clock_may_go_round() {
 
 /// Two keep-alives at most, and the end.
 fn tablet_end(tablet: &mut Peer) -> bool {
-    let beat = traffic::keep_alive(2, 200);
+    let beat = milliseconds(200);
     tablet.expect(&beat);
     tablet.expect(&beat);
     tablet.is_closed()
@@ -150,7 +158,7 @@ fn a_ninth_connection_is_refused() {
     let (_, line) = hall.log.line("closed connection 3");
     assert_eq!(
         line,
-        "closed connection 3: the controller hung up; mute 5 is free"
+        "closed connection 3: the controller hung up; channel 5 is free"
     );
     let mut next = hall.connect(3);
     next.ask(&lock(9, 5), 0);
@@ -166,17 +174,12 @@ fn a_fault_closes_its_connection_alone() {
     panel.ask(&lock(7, 5), 0);
     first.ask(&lock(7, 6), 0);
     // what follows the fault is not run, what came before is answered
-    let after = traffic::message(1, &[set(9, 6, 1)]);
-    first.send(&[vec![0x3A], after.clone()].concat());
-    typed.send(
-        &[
-            traffic::message(1, &[lock(8, 7)]),
-            traffic::framed(1, 9, 5, 1, &after),
-        ]
-        .concat(),
-    );
+    let after = asked(&set(9, 6, 1));
+    first.send(&[&[0x3A], &after[..]].concat());
+    let strange = message(5, &[lock(9, 8)]);
+    typed.send(&[asked(&lock(8, 7)), strange, after].concat());
     typed.expect(&reply(8, 0, 0, &[]));
-    let mut short = traffic::message(1, &[lock(8, 8)]);
+    let mut short = asked(&lock(8, 8));
     short[13] += 1;
     data.send(&short);
     for peer in [&mut first, &mut typed, &mut data] {
@@ -185,14 +188,14 @@ fn a_fault_closes_its_connection_alone() {
     let closed = |n: u8| hall.log.line(&format!("closed connection {n}")).1;
     assert_eq!(
         closed(1),
-        "closed connection 1: fault 1 (first byte not 3B); mute 6 is free"
+        "closed connection 1: the first byte is not 3B (fault 1); channel 6 is free"
     );
     assert_eq!(
         closed(2),
-        "closed connection 2: fault 4 (type above 4); mute 7 is free"
+        "closed connection 2: pduType is above 4 (fault 4); channel 7 is free"
     );
-    assert!(closed(3).starts_with("closed connection 3: fault 6"));
-    panel.send(&traffic::message(1, &[get(1, 6)]));
+    assert_eq!(closed(3), format!("closed connection 3: {}", bad_data()));
+    panel.send(&asked(&get(1, 6)));
     panel.expect(&reply(1, 0, 1, &[2]));
     panel.ask(&lock(2, 5), 0);
     panel.ask(&lock(3, 6), 0);
@@ -212,17 +215,17 @@ fn a_subscriber_is_notified() {
         3, 4, 0, 0, 0x10, 1, 0, 1, 0, 1, 0, 4, 0, 1, 1, 1,
     ]);
     let notification = |value| notified(1, value, &[1, 2, 3, 4]);
-    // to the present value: no change; to another: one; of another mute: none
+    // to the present value: no change; to another: one; of another channel: none
     tablet.ask(&set(9, 1, 1), 0);
     tablet.ask(&set(10, 2, 1), 0);
     tablet.ask(&set(11, 1, 2), 0);
-    hall.log.line("notified connection 0: mute 1 is unmuted");
+    hall.log.line("notified connection 0: channel 1 is unmuted");
     panel.expect(&notification(2));
     // its own reply comes before its own notification
     panel.ask(&set(12, 1, 1), 0);
     panel.expect(&notification(1));
     let text = hall.end();
-    assert!(text.contains("connection 0 subscribed to mute 1; context of 4 bytes\n"));
+    assert!(text.contains("connection 0 subscribed to channel 1; context of 4 bytes\n"));
     assert_eq!(text.matches("notified connection 0").count(), 3);
 }
 
@@ -232,9 +235,7 @@ fn a_controller_that_takes_nothing_is_closed() {
     let hall = Hall::open();
     let mut deaf = hall.connect(0);
     let mut panel = hall.connect(1);
-    let identify = |k: u32| traffic::command(k, object(1), (1, 1), 0, &[]);
-    let many: Vec<Vec<u8>> = (0..119).map(identify).collect();
-    let many = traffic::message(1, &many);
+    let many = identifications(1);
     let talking = thread::spawn(move || while deaf.stream.write_all(&many).is_ok() {});
     let mut slowest = Duration::ZERO;
     let begun = Instant::now();
@@ -279,7 +280,7 @@ fn the_end_is_clean() {
     assert!(std::net::TcpStream::connect(address).is_err());
     let lines: Vec<&str> = text.lines().map(|line| &line[13..]).collect();
     let last = [
-        "closed connection 0: the amplifier ends; mute 5 is free",
+        "closed connection 0: the amplifier ends; channel 5 is free",
         "closed connection 1: the amplifier ends",
         "ended",
     ];
@@ -296,7 +297,7 @@ fn a_restart_loses_everything() {
     let hall = Hall::open();
     let mut tablet = hall.connect(0);
     let mut panel = hall.connect(1);
-    tablet.send(&traffic::message(1, &[get(1, 5)]));
+    tablet.send(&asked(&get(1, 5)));
     tablet.expect(&reply(1, 0, 1, &[2]));
     panel.ask(&lock(2, 5), 0);
     hall.end();
@@ -315,27 +316,27 @@ fn the_controller_plays_the_question() {
     let next = session.obey(script::parse(question).unwrap()).unwrap();
     assert_eq!(next, Next::Quit);
     for words in [
-        "panel: subscribe 5: status 0 (done)",
+        "panel: subscribe 5: done (status 0)",
         "tablet: beat 300 ms: answered",
-        "panel: notified: mute 5 is muted; context of 0 bytes",
-        "technician: lock 5: status 3 (another connection holds it)",
+        "panel: notified: channel 5 is muted; context of 0 bytes",
+        "technician: lock 5: held by another connection (status 3)",
         "tablet: the amplifier keeps alive, 300 ms",
         "tablet: closed by the amplifier",
-        "technician: lock 5: status 0 (done)",
+        "technician: lock 5: done (status 0)",
         "technician: let in after ",
-        "technician: get 5: status 0 (done), unmuted",
-        "panel: notified: mute 5 is unmuted; context of 0 bytes",
+        "technician: get 5: done (status 0), unmuted",
+        "panel: notified: channel 5 is unmuted; context of 0 bytes",
     ] {
         lines.line(words);
     }
     drop(session);
     let text = hall.end();
     let order = [
-        "connection 1 locked mute 5",
-        "notified connection 0: mute 5 is muted",
+        "connection 1 locked channel 5",
+        "notified connection 0: channel 5 is muted",
         "closed connection 1: nothing heard for ",
-        "connection 2 locked mute 5",
-        "notified connection 0: mute 5 is unmuted",
+        "connection 2 locked channel 5",
+        "notified connection 0: channel 5 is unmuted",
     ];
     let places: Vec<Option<usize>> = order.iter().map(|words| text.find(words)).collect();
     assert!(
@@ -374,7 +375,7 @@ fn an_interrupt_ends_the_program() {
     assert!(rest.last().unwrap().ends_with("ms  ended"), "{rest:?}");
     assert!(
         rest.iter()
-            .any(|line| line.contains("the amplifier ends; mute 5 is free"))
+            .any(|line| line.contains("the amplifier ends; channel 5 is free"))
     );
     assert_eq!(amplifier.wait().unwrap().code(), Some(0));
 }

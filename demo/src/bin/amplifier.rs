@@ -32,6 +32,7 @@ fn main() -> ExitCode {
 }
 
 fn run(port: u16, reset: bool) -> io::Result<()> {
+    melorwyth::check_version().map_err(io::Error::other)?;
     interrupt::watch();
     let listener = TcpListener::bind((Ipv4Addr::LOCALHOST, port))?;
     let desk = Desk::new(listener, Clock::starting_at(0), io::stdout())?;

@@ -36,6 +36,7 @@ fn main() -> ExitCode {
 }
 
 fn run(address: SocketAddr, commands: Vec<script::Command>) -> io::Result<()> {
+    melorwyth::check_version().map_err(io::Error::other)?;
     let mut session = Session::new(address, io::stdout());
     match session.obey(commands)? {
         Next::Quit => Ok(()),

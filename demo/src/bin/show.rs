@@ -69,6 +69,7 @@ fn free_port() -> io::Result<u16> {
 }
 
 fn run(text: &str) -> io::Result<()> {
+    melorwyth::check_version().map_err(io::Error::other)?;
     interrupt::watch();
     let listener = TcpListener::bind((Ipv4Addr::LOCALHOST, 0))?;
     let address = listener.local_addr()?;

@@ -1,79 +1,93 @@
 //! A count without bytes, over real sockets.
 
-use super::hall::{Controller, FAULT, Hall, Peer, get, lock, reply};
+use super::hall::{Controller, Hall, Peer, bad_data};
 use super::program;
-use compare::harness::traffic;
+use super::wire::{asked, get, lock, reply};
+use melorwyth::Refusal;
 use std::io::{Read, Write};
 use std::net::{Ipv4Addr, TcpListener, TcpStream};
 use std::thread;
 
-const SENT: &str = "one parameter and no byte of it: the writer gives refusal 11 (BadEntry); \
-    sends 27 bytes all the same";
+fn sent(channel: u8) -> String {
+    let refusal = Refusal::BadEntry;
+    assert_eq!(refusal.number(), 11);
+    format!(
+        "announce {channel}: one parameter and no byte of it; the writer says: {refusal}; \
+         sends 27 bytes all the same"
+    )
+}
 
-/// Its own lock is freed; its mute, and whatever another has, stay; it may come again.
+/// What came, and what the reader says.
+fn came(channel: u8, came: &str) -> String {
+    let fault = bad_data();
+    format!("announce {channel}: {came}; the reader says: {fault}")
+}
+
+/// Its own lock is freed; what it muted, and whatever another has, stay; it may come again.
 #[test]
 fn an_announced_entry_closes_its_connection_alone() {
     let hall = Hall::open();
     let mut controller = Controller::new(hall.address);
     controller.obey("as panel lock 6 mute 6 as tablet mute 4 lock 5 announce 3");
     let (_, line) = hall.log.line("closed connection");
+    let fault = bad_data();
     assert_eq!(
         line,
-        format!("closed connection 1: {FAULT}; mute 5 is free")
+        format!("closed connection 1: {fault}; channel 5 is free")
     );
     controller.obey("as panel lock 3 lock 5 lock 6 get 6 get 4 as tablet lock 6 lock 2");
-    let closed = format!("announce 3: closed; the reader gives these bytes {FAULT}");
     let tablet = [
         "connected",
-        "mute 4: status 0 (done)",
-        "lock 5: status 0 (done)",
-        &format!("announce 3: {SENT}"),
+        "mute 4: done (status 0)",
+        "lock 5: done (status 0)",
+        &sent(3),
         "closed by the amplifier",
-        &closed,
+        &came(3, "closed"),
         "connected",
-        "lock 6: status 3 (another connection holds it)",
-        "lock 2: status 0 (done)",
+        "lock 6: held by another connection (status 3)",
+        "lock 2: done (status 0)",
     ];
     assert_eq!(controller.said("tablet"), tablet);
     let panel = [
         "connected",
-        "lock 6: status 0 (done)",
-        "mute 6: status 0 (done)",
-        "lock 3: status 0 (done)",
-        "lock 5: status 0 (done)",
-        "lock 6: status 0 (done)",
-        "get 6: status 0 (done), muted",
-        "get 4: status 0 (done), muted",
+        "lock 6: done (status 0)",
+        "mute 6: done (status 0)",
+        "lock 3: done (status 0)",
+        "lock 5: done (status 0)",
+        "lock 6: done (status 0)",
+        "get 6: done (status 0), muted",
+        "get 4: done (status 0), muted",
     ];
     assert_eq!(controller.said("panel"), panel);
     drop(controller);
     let text = hall.end();
     assert_eq!(text.matches("fault 6").count(), 1);
-    assert!(!text.contains("connection 1 locked mute 3"), "{text}");
+    assert!(!text.contains("connection 1 locked channel 3"), "{text}");
 }
 
-/// Every mute, one after another, whether or not another holds it: each time closed, each time let in again.
+/// Every channel, one after another, whether or not another holds it: each time closed, each time let in again.
 #[test]
-fn every_mute_may_be_announced() {
+fn every_channel_may_be_announced() {
     let hall = Hall::open();
     let mut controller = Controller::new(hall.address);
     controller.obey("as panel lock 2 lock 8 as tablet beat 30");
-    for mute in 1..=8 {
-        controller.obey(&format!("announce {mute}"));
+    for channel in 1..=8 {
+        controller.obey(&format!("announce {channel}"));
     }
     controller.obey("get 8");
     let said = controller.said("tablet");
     let count = |words: &str| said.iter().filter(|line| line.contains(words)).count();
     assert_eq!(count("connected"), 9);
     assert_eq!(count("closed by the amplifier"), 8);
-    assert_eq!(count(FAULT), 8);
-    assert_eq!(said.last().unwrap(), "get 8: status 0 (done), unmuted");
+    let fault = bad_data();
+    assert_eq!(count(&fault), 8);
+    assert_eq!(said.last().unwrap(), "get 8: done (status 0), unmuted");
     drop(controller);
     let text = hall.end();
-    assert_eq!(text.matches(&format!("1: {FAULT}\n")).count(), 8, "{text}");
+    assert_eq!(text.matches(&format!("1: {fault}\n")).count(), 8, "{text}");
 }
 
-/// Mute 5 muted and mute 6 locked in one message, whose second command announces and gives nothing.
+/// Channel 5 muted and channel 6 locked in one message, whose second command announces and gives nothing.
 #[test]
 fn no_command_of_that_message_is_run() {
     let message = "3B0001 0000002C 01 0002 \
@@ -95,17 +109,17 @@ fn no_command_of_that_message_is_run() {
             [
                 "closed by the amplifier",
                 "connected",
-                "get 5: status 0 (done), unmuted"
+                "get 5: done (status 0), unmuted"
             ]
         );
-        assert!(controller.lines.has("panel: lock 6: status 0 (done)"));
+        assert!(controller.lines.has("panel: lock 6: done (status 0)"));
         drop(controller);
         let text = hall.end();
         assert!(
-            text.contains(&format!("closed connection 0: {FAULT}\n")),
+            text.contains(&format!("closed connection 0: {}\n", bad_data())),
             "{text}"
         );
-        assert!(!text.contains("muted mute"), "{text}");
+        assert!(!text.contains("muted channel"), "{text}");
         assert!(!text.contains("connection 0 locked"), "{text}");
     }
 }
@@ -115,25 +129,29 @@ fn no_command_of_that_message_is_run() {
 fn messages_before_it_are_run_and_those_after_it_not() {
     let hall = Hall::open();
     let mut tablet = hall.connect(0);
-    let mut announced = traffic::message(1, &[lock(8, 6)]);
+    let mut announced = asked(&lock(8, 6));
     *announced.last_mut().unwrap() = 1;
-    let before = traffic::message(1, &[lock(7, 5)]);
-    let after = traffic::message(1, &[lock(9, 7)]);
+    let before = asked(&lock(7, 5));
+    let after = asked(&lock(9, 7));
     tablet.send(&[before, announced, after].concat());
     tablet.expect(&reply(7, 0, 0, &[]));
     assert!(tablet.is_closed());
     let (_, line) = hall.log.line("closed connection 0");
+    let fault = bad_data();
     assert_eq!(
         line,
-        format!("closed connection 0: {FAULT}; mute 5 is free")
+        format!("closed connection 0: {fault}; channel 5 is free")
     );
     let mut panel = hall.connect(0);
-    for mute in 5..=7 {
-        panel.ask(&lock(mute, mute), 0);
+    for channel in 5..=7 {
+        panel.ask(&lock(channel, channel), 0);
     }
-    panel.send(&traffic::message(1, &[get(1, 5)]));
+    panel.send(&asked(&get(1, 5)));
     panel.expect(&reply(1, 0, 1, &[2]));
-    assert_eq!(hall.end().matches("connection 0 locked mute 7").count(), 1);
+    assert_eq!(
+        hall.end().matches("connection 0 locked channel 7").count(),
+        1
+    );
 }
 
 /// A message without the byte, and its neighbours that are sound: with one byte, and with the count that has none.
@@ -141,7 +159,7 @@ struct Kind {
     without: &'static str,
     with: &'static str,
     none: &'static str,
-    /// What the closure frees: mute 7, and mute 5 where the last neighbour locked it.
+    /// What the closure frees: channel 7, and channel 5 where the last neighbour locked it.
     freed: &'static str,
 }
 
@@ -151,28 +169,28 @@ const KINDS: [Kind; 4] = [
         without: "3B0001 0000001A 00 0001 00000011 00000077 00001005 00010003 01",
         with: "3B0001 0000001B 00 0001 00000012 00000077 00001005 00010003 01 00",
         none: "3B0001 0000001A 00 0001 00000011 00000077 00001005 00010003 00",
-        freed: "mutes 5, 7 are free",
+        freed: "channels 5, 7 are free",
     },
     // a command that wants one, of which the count is as high as it goes
     Kind {
         without: "3B0001 0000001A 01 0001 00000011 00000077 00001005 00010003 FF",
         with: "3B0001 0000001B 01 0001 00000012 00000077 00001005 00010003 FF 00",
         none: "3B0001 0000001A 01 0001 00000011 00000077 00001005 00010003 00",
-        freed: "mutes 5, 7 are free",
+        freed: "channels 5, 7 are free",
     },
     // a notification, whose count is one more
     Kind {
         without: "3B0001 00000024 02 0001 0000001B 00000009 00030001 02 0004 01020304 00001005 00010001",
         with: "3B0001 00000025 02 0001 0000001C 00000009 00030001 02 0004 01020304 00001005 00010001 01",
         none: "3B0001 00000024 02 0001 0000001B 00000009 00030001 01 0004 01020304 00001005 00010001",
-        freed: "mute 7 is free",
+        freed: "channel 7 is free",
     },
     // a response
     Kind {
         without: "3B0001 00000013 03 0001 0000000A 00000077 00 01",
         with: "3B0001 00000014 03 0001 0000000B 00000077 00 01 05",
         none: "3B0001 00000013 03 0001 0000000A 00000077 00 00",
-        freed: "mute 7 is free",
+        freed: "channel 7 is free",
     },
 ];
 
@@ -191,8 +209,8 @@ fn every_kind_of_entry_needs_a_byte_for_its_count() {
         let said = controller.said("tablet");
         assert_eq!(said.iter().filter(|line| *line == "connected").count(), 1);
         let (_, line) = hall.log.line("closed connection 0");
-        let freed = kind.freed;
-        assert_eq!(line, format!("closed connection 0: {FAULT}; {freed}"));
+        let (fault, freed) = (bad_data(), kind.freed);
+        assert_eq!(line, format!("closed connection 0: {fault}; {freed}"));
         drop(controller);
         hall.end();
     }
@@ -209,7 +227,7 @@ fn heard(stream: &mut TcpStream) -> [u8; 27] {
 fn unlike(listener: &TcpListener) {
     let (mut stream, _) = listener.accept().unwrap();
     for handle in 1..=3 {
-        let mut expected = traffic::message(1, &[lock(handle, handle)]);
+        let mut expected = asked(&lock(handle, handle));
         expected[26] = 1;
         assert_eq!(heard(&mut stream), expected[..]);
         if handle == 1 {
@@ -220,7 +238,7 @@ fn unlike(listener: &TcpListener) {
     let mut again = Peer {
         stream: listener.accept().unwrap().0,
     };
-    again.expect(&traffic::message(1, &[lock(1, 4)]));
+    again.expect(&asked(&lock(1, 4)));
     again.send(&reply(1, 0, 0, &[]));
 }
 
@@ -232,25 +250,22 @@ fn whatever_comes_the_controller_goes_on() {
     let other = thread::spawn(move || unlike(&listener));
     controller.obey("announce 1 announce 2 announce 3 lock 4");
     other.join().unwrap();
-    let sent = |mute| format!("announce {mute}: {SENT}");
-    let came =
-        |mute, came| format!("announce {mute}: {came}; the reader gives these bytes {FAULT}");
     let expected = [
         "connected",
         &sent(1),
-        &came(1, "status 4 (wrong count or length)"),
+        &came(1, "wrong parameter count or length (status 4)"),
         &sent(2),
         &came(2, "neither closed nor answered"),
         &sent(3),
         "closed by the amplifier",
         &came(3, "closed"),
         "connected",
-        "lock 4: status 0 (done)",
+        "lock 4: done (status 0)",
     ];
     assert_eq!(controller.said("tablet"), expected);
 }
 
-/// The program itself: it goes on after the closure, and ends well; a mute that there is not, and it prints its commands.
+/// The program itself: it goes on after the closure, and ends well; a channel that there is not, and it prints its commands.
 #[test]
 fn the_program_announces() {
     let hall = Hall::open();
@@ -264,7 +279,7 @@ fn the_program_announces() {
     assert_eq!(output.status.code(), Some(0), "{said}");
     assert_eq!(said.lines().count(), 7, "{said}");
     assert!(
-        said.ends_with("tablet: lock 5: status 0 (done)\n"),
+        said.ends_with("tablet: lock 5: done (status 0)\n"),
         "{said}"
     );
     let output = run(&["announce", "9"]);

@@ -1,11 +1,12 @@
 //! The subscriber's context, over real sockets.
 
-use super::hall::{Controller, FAULT, Hall, Log, Peer, STATUS_7, notified, set, subscribe};
+use super::hall::{Controller, Hall, Log, Peer, bad_data, bad_value};
 use super::program;
-use compare::harness::traffic;
-use compare::record::CONTEXT;
+use super::wire::{added, name, notified, set, subscribe};
 use demo::message::{self, Front, Said};
 use demo::session::Session;
+use melorwyth::Fault;
+use melorwyth::record::CONTEXT;
 use std::net::{Ipv4Addr, TcpListener};
 use std::sync::mpsc;
 use std::thread;
@@ -17,20 +18,21 @@ fn letters(count: usize) -> Vec<u8> {
     (b'A'..=b'Z').cycle().take(count).collect()
 }
 
-/// Contexts of 0, 4, 63 and 64 bytes as they are on the wire, each of another mute.
+/// Contexts of 0, 4, 63 and 64 bytes as they are on the wire, each of another channel.
 #[test]
 fn a_context_comes_back_as_it_was_given() {
     let hall = Hall::open();
     let mut panel = hall.connect(0);
     let mut tablet = hall.connect(1);
-    for (mute, count) in (1..).zip([0, 4, CONTEXT - 1, CONTEXT]) {
+    for (channel, count) in (1..).zip([0, 4, CONTEXT - 1, CONTEXT]) {
         let context = letters(count);
-        panel.ask(&subscribe(7, mute, &context), 0);
+        panel.ask(&subscribe(7, channel, &context), 0);
         for value in [1, 2] {
-            tablet.ask(&set(8, mute, value), 0);
-            panel.expect(&notified(mute as u8, value, &context));
+            tablet.ask(&set(8, channel, value), 0);
+            panel.expect(&notified(channel as u8, value, &context));
         }
-        let line = format!("connection 0 subscribed to mute {mute}; context of {count} bytes");
+        let line =
+            format!("connection 0 subscribed to channel {channel}; context of {count} bytes");
         hall.log.line(&line);
     }
     hall.end();
@@ -46,24 +48,25 @@ fn the_controller_shows_what_comes_back() {
         "as panel subscribe 1 subscribe 2 context 0102fF1b subscribe 3 text stage-left \
          subscribe 4 context {long} as tablet mute 1 mute 2 mute 3 mute 4"
     ));
-    controller.hear("notified: mute 4");
+    controller.hear("notified: channel 4");
     let text = "Z".repeat(CONTEXT);
     let panel = [
         "connected",
-        "subscribe 1: status 0 (done)",
-        "subscribe 2 context 0102FF1B: status 0 (done)",
-        "subscribe 3 context 73746167652D6C656674: status 0 (done)",
-        &format!("subscribe 4 context {long}: status 0 (done)"),
-        "notified: mute 1 is muted; context of 0 bytes",
-        "notified: mute 2 is muted; context of 4 bytes, 0102FF1B",
-        "notified: mute 3 is muted; context of 10 bytes, 73746167652D6C656674 \"stage-left\"",
-        &format!("notified: mute 4 is muted; context of 64 bytes, {long} \"{text}\""),
+        "subscribe 1: done (status 0)",
+        "subscribe 2 context 0102FF1B: done (status 0)",
+        "subscribe 3 context 73746167652D6C656674: done (status 0)",
+        &format!("subscribe 4 context {long}: done (status 0)"),
+        "notified: channel 1 is muted; context of 0 bytes",
+        "notified: channel 2 is muted; context of 4 bytes, 0102FF1B",
+        "notified: channel 3 is muted; context of 10 bytes, 73746167652D6C656674 \"stage-left\"",
+        &format!("notified: channel 4 is muted; context of 64 bytes, {long} \"{text}\""),
     ];
     assert_eq!(controller.said("panel"), panel);
     drop(controller);
     let text = hall.end();
-    for (mute, count) in [(1, 0), (2, 4), (3, 10), (4, 64)] {
-        let line = format!("connection 0 subscribed to mute {mute}; context of {count} bytes\n");
+    for (channel, count) in [(1, 0), (2, 4), (3, 10), (4, 64)] {
+        let line =
+            format!("connection 0 subscribed to channel {channel}; context of {count} bytes\n");
         assert!(text.contains(&line), "{text}");
     }
 }
@@ -74,18 +77,19 @@ fn a_context_is_read() {
     for count in 0..=CONTEXT {
         let bytes = notified(5, 1, &letters(count));
         let said = Said::Notification {
-            mute: 5,
+            channel: 5,
             value: 1,
             context: letters(count),
         };
         let length = 39 + count;
         assert_eq!(message::read(&bytes), Front::Message { length, said });
     }
-    assert_eq!(message::fault(&notified(5, 1, &letters(TOO_LONG))), Some(6));
+    let fault = Some(Fault::Data);
+    assert_eq!(message::fault(&notified(5, 1, &letters(TOO_LONG))), fault);
     let mut bytes = notified(5, 1, &letters(4));
     for count in [10, 18, 19, 64, 255] {
         bytes[24] = count;
-        assert_eq!(message::fault(&bytes), Some(6), "{count}");
+        assert_eq!(message::fault(&bytes), fault, "{count}");
     }
 }
 
@@ -105,7 +109,7 @@ fn each_controller_has_its_own_context() {
         ("desk", &format!("context of 64 bytes, {long}")),
     ];
     for (name, context) in contexts {
-        controller.hear(&format!("{name}: notified: mute 5 is muted; {context}"));
+        controller.hear(&format!("{name}: notified: channel 5 is muted; {context}"));
         let said = controller.said(name);
         let told = said.iter().filter(|line| line.starts_with("notified"));
         assert_eq!(told.count(), 1, "{said:?}");
@@ -121,18 +125,18 @@ fn a_context_tells_no_two_subscriptions_apart() {
     let mut controller = Controller::new(hall.address);
     controller.obey("as panel subscribe 5 text first subscribe 5 text second subscribe 5");
     controller.obey("as tablet mute 5 as panel");
-    controller.hear("notified: mute 5 is muted");
+    controller.hear("notified: channel 5 is muted");
     controller.obey("unsubscribe 5 subscribe 5 text second as tablet unmute 5 as panel");
-    controller.hear("notified: mute 5 is unmuted");
+    controller.hear("notified: channel 5 is unmuted");
     let panel = [
         "connected",
-        "subscribe 5 context 6669727374: status 0 (done)",
-        "subscribe 5 context 7365636F6E64: status 9 (not held, or held already)",
-        "subscribe 5: status 9 (not held, or held already)",
-        "notified: mute 5 is muted; context of 5 bytes, 6669727374 \"first\"",
-        "unsubscribe 5: status 0 (done)",
-        "subscribe 5 context 7365636F6E64: status 0 (done)",
-        "notified: mute 5 is unmuted; context of 6 bytes, 7365636F6E64 \"second\"",
+        "subscribe 5 context 6669727374: done (status 0)",
+        "subscribe 5 context 7365636F6E64: not held, or held already (status 9)",
+        "subscribe 5: not held, or held already (status 9)",
+        "notified: channel 5 is muted; context of 5 bytes, 6669727374 \"first\"",
+        "unsubscribe 5: done (status 0)",
+        "subscribe 5 context 7365636F6E64: done (status 0)",
+        "notified: channel 5 is unmuted; context of 6 bytes, 7365636F6E64 \"second\"",
     ];
     assert_eq!(controller.said("panel"), panel);
     drop(controller);
@@ -147,13 +151,13 @@ fn one_that_is_too_long_gets_status_7() {
     controller.obey("overlong 5 as panel mute 5 as tablet subscribe 5 text short overlong 5");
     controller.obey("as panel unmute 5");
     controller.hear("notified");
-    let overlong = format!("overlong 5: context of 65 bytes: {STATUS_7}");
+    let overlong = format!("overlong 5: context of 65 bytes: {}", bad_value());
     let tablet = [
         "connected",
         &overlong,
-        "subscribe 5 context 73686F7274: status 0 (done)",
+        "subscribe 5 context 73686F7274: done (status 0)",
         &overlong,
-        "notified: mute 5 is unmuted; context of 5 bytes, 73686F7274 \"short\"",
+        "notified: channel 5 is unmuted; context of 5 bytes, 73686F7274 \"short\"",
     ];
     assert_eq!(controller.said("tablet"), tablet);
     let mut other = hall.connect(2);
@@ -163,8 +167,9 @@ fn one_that_is_too_long_gets_status_7() {
     other.ask(&subscribe(2, 5, &letters(CONTEXT)), 0);
     drop(controller);
     let text = hall.end();
-    assert_eq!(text.matches("subscribed to mute 5").count(), 2, "{text}");
-    assert_eq!(text.matches("answered connection 0: status 7").count(), 2);
+    assert_eq!(text.matches("subscribed to channel 5").count(), 2, "{text}");
+    let answered = format!("answered connection 0: {}", bad_value());
+    assert_eq!(text.matches(&answered).count(), 2);
 }
 
 /// A count that says other than its bytes is status 4: the length goes before the rest.
@@ -173,7 +178,7 @@ fn a_count_that_lies_gets_status_4() {
     let hall = Hall::open();
     let mut panel = hall.connect(0);
     for (count, given) in [
-        (0, 4),
+        (0_u16, 4),
         (3, 4),
         (5, 4),
         (64, 65),
@@ -181,10 +186,9 @@ fn a_count_that_lies_gets_status_4() {
         (256, 0),
         (260, 4),
     ] {
-        let name = traffic::naming(4_101, 0x0001_0001, 9, 0x0003_0001);
-        let blob = traffic::stated(count, &letters(given));
-        let adding = traffic::adding(&name, &blob, 1, [0, 0]);
-        panel.ask(&traffic::command(7, 4, (3, 1), 5, &adding), 4);
+        let stated = [&count.to_be_bytes(), &letters(given)[..]].concat();
+        let parameters = [&name(5)[..], &stated, &[1, 0, 0]].concat();
+        panel.ask(&added(7, &parameters), 4);
     }
     assert!(!hall.end().contains("subscribed"));
 }
@@ -204,7 +208,7 @@ fn a_notification_with_too_much_closes() {
         panel.send(&bytes);
         assert!(panel.is_closed());
     }
-    let closed = format!("closed connection 0: {FAULT}\n");
+    let closed = format!("closed connection 0: {}\n", bad_data());
     assert_eq!(hall.end().matches(&closed).count(), 2);
 }
 
@@ -223,11 +227,11 @@ fn the_controller_parts_with_an_amplifier_that_sends_too_much() {
         assert!(peer.is_closed());
     });
     controller.obey("bytes 3B");
-    controller.hear(FAULT);
+    controller.hear(&bad_data());
     other.join().unwrap();
     let said = controller.said("tablet");
-    assert!(said[2].starts_with("notified: mute 5 is muted; context of 64 bytes, 41"));
-    assert_eq!(said[3..], [FAULT]);
+    assert!(said[2].starts_with("notified: channel 5 is muted; context of 64 bytes, 41"));
+    assert_eq!(said[3..], [bad_data()]);
 }
 
 /// What is typed wrong is told, and the next line is done.
@@ -247,9 +251,9 @@ fn a_wrong_context_that_is_typed_is_told() {
     session.converse(&typed).unwrap();
     lines
         .line("tablet: subscribe 5: 'context' takes hex digits, two a byte, and this has 3 digits");
-    lines.line("tablet: subscribe 5 context 0102: status 0 (done)");
+    lines.line("tablet: subscribe 5 context 0102: done (status 0)");
     drop(session);
-    assert_eq!(hall.end().matches("subscribed to mute 5").count(), 1);
+    assert_eq!(hall.end().matches("subscribed to channel 5").count(), 1);
 }
 
 /// The program itself: 64 bytes are sent, 65 are not, and it prints its commands.
@@ -265,7 +269,7 @@ fn the_program_refuses_a_context_that_is_too_long() {
     let output = run(&"ab".repeat(CONTEXT));
     let said = String::from_utf8(output.stdout).unwrap();
     assert_eq!(output.status.code(), Some(0), "{said}");
-    assert!(said.ends_with("ABAB: status 0 (done)\n"), "{said}");
+    assert!(said.ends_with("ABAB: done (status 0)\n"), "{said}");
     let output = run(&"ab".repeat(TOO_LONG));
     let said = String::from_utf8(output.stderr).unwrap();
     assert_eq!(output.status.code(), Some(2), "{said}");

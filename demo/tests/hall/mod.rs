@@ -1,11 +1,12 @@
 //! An amplifier in a thread, controllers on real sockets, and the lines that it prints.
 
-use compare::harness::traffic;
+use super::wire::{self, asked, reply};
 use demo::clock::Clock;
 use demo::desk::Desk;
-use demo::restart::Key;
 use demo::script;
 use demo::session::{Next, Session};
+use demo::witness::{Unwatched, Witness};
+use melorwyth::{Fault, Status};
 use std::io::{self, ErrorKind, Read, Write};
 use std::net::{Ipv4Addr, SocketAddr, TcpListener, TcpStream};
 use std::sync::atomic::{AtomicBool, Ordering};
@@ -17,12 +18,18 @@ use std::time::{Duration, Instant};
 pub const PATIENCE: Duration = Duration::from_secs(20);
 
 /// What a connection is closed for by an entry that is not well formed.
-pub const FAULT: &str =
-    "fault 6 (data that do not fit their type, a count without bytes, or a context too long)";
+pub fn bad_data() -> String {
+    let fault = Fault::Data.to_string();
+    assert!(fault.ends_with(" (fault 6)"));
+    fault
+}
 
 /// What a context, a text or a port is answered that is not taken.
-pub const STATUS_7: &str = "status 7 (mode not 1, context above 64 bytes, mute not 1 or 2, \
-    or a text or port that 3.14 does not take)";
+pub fn bad_value() -> String {
+    let status = Status::BadValue.to_string();
+    assert!(status.ends_with(" (status 7)"));
+    status
+}
 
 /// What was printed so far.
 #[derive(Clone, Debug, Default)]
@@ -84,20 +91,30 @@ impl Hall {
 
     /// The amplifier's clock starts at this reading.
     pub fn open_at(reading: u32) -> Hall {
-        Hall::open_as(reading, |desk| desk)
+        Hall::open_as(reading, Unwatched, |desk| desk)
     }
 
     /// The amplifier's reset switch is off.
     pub fn open_without_reset() -> Hall {
-        Hall::open_as(0, Desk::without_reset)
+        Hall::open_as(0, Unwatched, Desk::without_reset)
     }
 
-    fn open_as(reading: u32, made: fn(Desk<Log>) -> Desk<Log>) -> Hall {
+    /// The amplifier's calls are shown to a witness.
+    pub fn open_watched(witness: impl Witness + Send + 'static) -> Hall {
+        Hall::open_as(0, witness, |desk| desk)
+    }
+
+    fn open_as<S: Witness + Send + 'static>(
+        reading: u32,
+        witness: S,
+        made: fn(Desk<Log, S>) -> Desk<Log, S>,
+    ) -> Hall {
         let listener = TcpListener::bind((Ipv4Addr::LOCALHOST, 0)).unwrap();
         let address = listener.local_addr().unwrap();
         let log = Log::default();
         let stop = Arc::new(AtomicBool::new(false));
-        let desk = Desk::new(listener, Clock::starting_at(reading), log.clone()).unwrap();
+        let clock = Clock::starting_at(reading);
+        let desk = Desk::watched(listener, clock, log.clone(), witness).unwrap();
         let desk = made(desk);
         let stopped = Arc::clone(&stop);
         let thread = thread::spawn(move || desk.run(&stopped));
@@ -123,7 +140,8 @@ impl Hall {
         let last = text
             .lines()
             .rfind(|line| line.contains("opened connection"));
-        let opened = format!("opened connection {n}");
+        let from = peer.stream.local_addr().unwrap();
+        let opened = format!("opened connection {n} for {from}");
         assert!(last.is_some_and(|line| line.ends_with(&opened)), "{text}");
         peer
     }
@@ -204,12 +222,12 @@ impl Peer {
 
     /// Sends a command and wants this status, and no parameters.
     pub fn ask(&mut self, entry: &[u8], status: u8) {
-        self.send(&traffic::message(1, &[entry.to_vec()]));
+        self.send(&asked(entry));
         self.expect(&reply(handle(entry), status, 0, &[]));
     }
 
     pub fn beat(&mut self, milliseconds: u32) {
-        let beat = traffic::keep_alive(2, milliseconds);
+        let beat = wire::milliseconds(milliseconds);
         self.send(&beat);
         self.expect(&beat);
     }
@@ -226,55 +244,4 @@ impl Peer {
 
 fn handle(entry: &[u8]) -> u32 {
     u32::from_be_bytes(entry[4..8].try_into().unwrap())
-}
-
-/// A response message with one entry.
-pub fn reply(handle: u32, status: u8, count: u8, parameters: &[u8]) -> Vec<u8> {
-    let mut entry = (10 + parameters.len() as u32).to_be_bytes().to_vec();
-    entry.extend(handle.to_be_bytes());
-    entry.extend([status, count]);
-    entry.extend(parameters);
-    traffic::message(3, &[entry])
-}
-
-pub fn object(mute: u32) -> u32 {
-    4_096 + mute
-}
-
-pub fn lock(handle: u32, mute: u32) -> Vec<u8> {
-    traffic::command(handle, object(mute), (1, 3), 0, &[])
-}
-
-pub fn set(handle: u32, mute: u32, value: u8) -> Vec<u8> {
-    traffic::command(handle, object(mute), (4, 2), 1, &[value])
-}
-
-pub fn get(handle: u32, mute: u32) -> Vec<u8> {
-    traffic::command(handle, object(mute), (4, 1), 0, &[])
-}
-
-/// Method 3.14; an empty text is no group.
-pub fn arm(handle: u32, key: Key, text: &str, port: u16) -> Vec<u8> {
-    let mut rest = key.to_vec();
-    rest.extend((text.len() as u16).to_be_bytes());
-    rest.extend(text.as_bytes());
-    rest.extend(port.to_be_bytes());
-    traffic::command(handle, 1, (3, 14), 2, &rest)
-}
-
-pub fn subscribe(handle: u32, mute: u32, context: &[u8]) -> Vec<u8> {
-    let name = traffic::naming(object(mute), 0x0001_0001, 9, 0x0003_0001);
-    let adding = traffic::adding(&name, &traffic::blob(context), 1, [0, 0]);
-    traffic::command(handle, 4, (3, 1), 5, &adding)
-}
-
-/// A notification message: mute 1 to 8 has this value, and the context of whoever subscribed.
-pub fn notified(mute: u8, value: u8, context: &[u8]) -> Vec<u8> {
-    let size = 29 + context.len() as u8;
-    let told = [
-        &[0, 0, 0, size, 0, 0, 0, 9, 0, 3, 0, 1, 2],
-        &traffic::blob(context)[..],
-        &[0, 0, 0x10, mute, 0, 1, 0, 1, 0, 4, 0, 1, value, 1],
-    ];
-    traffic::message(2, &[told.concat()])
 }

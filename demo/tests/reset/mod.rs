@@ -1,10 +1,8 @@
 //! Reset by key, over real sockets of the loopback address.
 
-use super::hall::{
-    Hall, Log, PATIENCE, Peer, STATUS_7, arm, get, lock, object, reply, set, subscribe,
-};
+use super::hall::{Hall, Log, PATIENCE, Peer, bad_value};
 use super::program;
-use compare::harness::traffic;
+use super::wire::{arm, asked, get, identifications, keyed, lock, reply, set, subscribe};
 use demo::restart::{Key, Restart};
 use demo::script;
 use demo::session::{Next, Session};
@@ -14,17 +12,17 @@ use std::process::Output;
 use std::thread;
 use std::time::Duration;
 
-const KEY: Key = *b"\x00front desk key\xFF";
-const OTHER: Key = *b"\x00front desk keY\xFF";
+pub const KEY: Key = *b"\x00front desk key\xFF";
+pub const OTHER: Key = *b"\x00front desk keY\xFF";
 const GROUP: Ipv4Addr = Ipv4Addr::new(239, 77, 70, 15);
 
 /// A UDP port that is free now.
-fn free_port() -> u16 {
+pub fn free_port() -> u16 {
     let socket = UdpSocket::bind((Ipv4Addr::LOCALHOST, 0)).unwrap();
     socket.local_addr().unwrap().port()
 }
 
-fn restart(key: Key, port: u16) -> Restart {
+pub fn restart(key: Key, port: u16) -> Restart {
     let to = SocketAddrV4::new(Ipv4Addr::LOCALHOST, port);
     Restart { key, to }
 }
@@ -55,7 +53,7 @@ fn a_rack_that_hung_is_restarted() {
         peer.ask(&set(2, n, 1), 0);
         peer.ask(&subscribe(3, n, &[]), 0);
         peer.ask(&lock(4, n), 0);
-        peer.send(&traffic::message(1, &[lock(5, 1)])[..12]);
+        peer.send(&asked(&lock(5, 1))[..12]);
     }
     assert!(Peer::connect(hall.address).is_closed());
     restart(KEY, port).send().unwrap();
@@ -63,12 +61,14 @@ fn a_rack_that_hung_is_restarted() {
     let (_, line) = hall.log.line("reset by key");
     let all = "1, 2, 3, 4, 5, 6, 7, 8";
     assert!(line.starts_with("reset by key: closed connections 0, 1, 2, 3, 4, 5, 6, 7; "));
-    assert!(line.ends_with(&format!("mutes {all} are free; mutes {all} are unmuted")));
+    assert!(line.ends_with(&format!(
+        "channels {all} are free; channels {all} are unmuted"
+    )));
     let mut technician = hall.connect(0);
-    for mute in 1..=8 {
-        technician.ask(&lock(mute, mute), 0);
-        technician.send(&traffic::message(1, &[get(mute, mute)]));
-        technician.expect(&reply(mute, 0, 1, &[2]));
+    for channel in 1..=8 {
+        technician.ask(&lock(channel, channel), 0);
+        technician.send(&asked(&get(channel, channel)));
+        technician.expect(&reply(channel, 0, 1, &[2]));
     }
     // nobody is subscribed any more: its next message is its own reply
     technician.ask(&set(9, 5, 1), 0);
@@ -106,7 +106,7 @@ fn other_datagrams_do_nothing() {
     send(port, &good);
     assert!(tablet.is_closed());
     let (_, line) = hall.log.line("reset by key");
-    assert_eq!(line, "reset by key: closed connection 0; mute 5 is free");
+    assert_eq!(line, "reset by key: closed connection 0; channel 5 is free");
     hall.end();
 }
 
@@ -183,8 +183,7 @@ fn a_refused_key_arms_nothing() {
         tablet.ask(&arm(2, OTHER, text, other), 7);
     }
     tablet.ask(&arm(3, OTHER, "", 0), 7);
-    let short = traffic::command(4, 1, (3, 14), 2, &OTHER);
-    tablet.ask(&short, 4);
+    tablet.ask(&keyed(4, &OTHER), 4);
     assert!(restart(OTHER, other).send().is_err());
     restart(KEY, port).send().unwrap();
     assert!(tablet.is_closed());
@@ -275,10 +274,8 @@ fn a_babbling_controller_does_not_put_it_off() {
     let mut babbling = hall.connect(0);
     babbling.ask(&arm(1, KEY, "", port), 0);
     babbling.ask(&lock(2, 5), 0);
-    let identify = |k: u32| traffic::command(k, object(1), (1, 1), 0, &[]);
-    let many: Vec<Vec<u8>> = (0..119).map(identify).collect();
     // of type 0, so that it is run without replies
-    let many = traffic::message(0, &many);
+    let many = identifications(0);
     // a write that waits for room may learn late that the other end is closed
     let soon = Some(Duration::from_secs(1));
     babbling.stream.set_write_timeout(soon).unwrap();
@@ -307,14 +304,14 @@ fn the_controller_arms_in_words() {
     let next = session.obey(script::parse(&typed).unwrap()).unwrap();
     assert_eq!(next, Next::Quit);
     for line in [
-        format!("tablet: arm {port} 10.0.0.1: {STATUS_7}"),
-        format!("tablet: arm 0: {STATUS_7}"),
-        format!("tablet: arm {port}: status 0 (done)"),
+        format!("tablet: arm {port} 10.0.0.1: {}", bad_value()),
+        format!("tablet: arm 0: {}", bad_value()),
+        format!("tablet: arm {port}: done (status 0)"),
         "tablet: hangs up".to_string(),
         format!("panel: sends 24 bytes to 127.0.0.1:{port} by UDP, which answers nothing"),
         "panel: nothing was closed: that was no reset".to_string(),
         "panel: closed by the amplifier".to_string(),
-        "panel: lock 5: status 0 (done)".to_string(),
+        "panel: lock 5: done (status 0)".to_string(),
     ] {
         lines.line(&line);
     }
@@ -338,11 +335,11 @@ fn the_show_of_a_restart() {
     let text = lines.text();
     let order = [
         "installer: hangs up",
-        "technician: lock 5: status 3 (another connection holds it)",
+        "technician: lock 5: held by another connection (status 3)",
         "front-desk: sends 24 bytes",
-        "technician: lock 1: status 0 (done)",
-        "technician: lock 8: status 0 (done)",
-        "technician: get 5: status 0 (done), unmuted",
+        "technician: lock 1: done (status 0)",
+        "technician: lock 8: done (status 0)",
+        "technician: get 5: done (status 0), unmuted",
     ];
     let places: Vec<Option<usize>> = order.iter().map(|words| text.find(words)).collect();
     assert!(
