@@ -134,7 +134,8 @@
  * - put anything but 0 or 1 into a bool of the record;
  * - pass one record and area to two calls at the same time;
  * - call with less than about 32 KB of stack: records pass by value, and the
- *   deepest call, melorwyth_take, takes 26 KB (docs/BENCHMARKS.md).
+ *   deepest call, melorwyth_take, takes 26 KB with the place for its answer
+ *   (docs/BENCHMARKS.md).
  *
  * A record that was changed between calls is not in this list: if it breaks a
  * record rule it is refused by 1, and if it keeps them it is simply another state.
