@@ -142,18 +142,22 @@ mod tests {
     const GIVEN: Option<Status> = Some(Status::CarriedOut);
     const HELD: Option<Status> = Some(Status::HeldByOther);
 
-    /// What is said of a try so many milliseconds behind a death with H 100 whose last message took 5.
+    /// H 100, and the last message's reply so many milliseconds behind its sending.
+    fn death(sent: Instant, replied: u64) -> Death {
+        Death {
+            sent,
+            heard: sent + Duration::from_millis(replied),
+            beat: 100,
+            resets: 0,
+        }
+    }
+
+    /// What is said of a try so many milliseconds behind a death whose last message took 5.
     fn said(status: Option<Status>, asked: u64, told: u64) -> Option<String> {
         let shared = Shared::default();
         let sent = Instant::now();
         let at = |milliseconds| sent + Duration::from_millis(milliseconds);
-        let death = Death {
-            sent,
-            heard: at(5),
-            beat: 100,
-            resets: 0,
-        };
-        judge(&shared, &death, status, at(asked), at(told));
+        judge(&shared, &death(sent, 5), status, at(asked), at(told));
         shared.failure()
     }
 
@@ -171,15 +175,9 @@ mod tests {
     fn a_reset_may_free_it() {
         let shared = Shared::default();
         let now = Instant::now();
-        let death = Death {
-            sent: now,
-            heard: now,
-            beat: 100,
-            resets: 0,
-        };
         shared.resetting();
-        judge(&shared, &death, GIVEN, now, now);
-        buried(&shared, &death, now);
+        judge(&shared, &death(now, 0), GIVEN, now, now);
+        buried(&shared, &death(now, 0), now);
         assert_eq!(shared.failure(), None);
     }
 
@@ -187,15 +185,9 @@ mod tests {
     fn an_early_closure_is_told() {
         let shared = Shared::default();
         let now = Instant::now();
-        let death = Death {
-            sent: now,
-            heard: now,
-            beat: 100,
-            resets: 0,
-        };
-        buried(&shared, &death, now + Duration::from_millis(299));
+        buried(&shared, &death(now, 0), now + Duration::from_millis(299));
         assert_eq!(shared.failure(), None);
-        buried(&shared, &death, now + Duration::from_millis(298));
+        buried(&shared, &death(now, 0), now + Duration::from_millis(298));
         assert!(shared.failure().is_some());
     }
 }
