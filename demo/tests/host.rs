@@ -113,13 +113,17 @@ fn without_a_heartbeat_it_stays_until_it_hangs_up() {
 fn a_quiet_connection_is_sent_its_heartbeat() {
     let Some(host) = Host::start() else { return };
     let mut tablet = host.connect();
-    for _ in 0..4 {
+    let (times, quiet) = (6, Duration::from_millis(400));
+    let begun = Instant::now();
+    for _ in 0..times {
         let sent = Instant::now();
         tablet.beat(400);
         tablet.expect(&milliseconds(400));
-        let quiet = sent.elapsed() + WHOLE;
-        assert!(quiet >= Duration::from_millis(400), "{quiet:?}");
+        let came = sent.elapsed() + WHOLE;
+        assert!(came >= quiet, "{came:?}");
     }
+    // a clock that runs in great steps is late in each
+    assert!(begun.elapsed() < times * quiet + LATE);
     tablet.ask(&lock(7, 5), 0);
     assert!(!host.end().contains("silence"));
 }

@@ -3,12 +3,13 @@
 use super::wire::{self, asked, reply};
 use demo::clock::Clock;
 use demo::desk::Desk;
+use demo::restart::Restart;
 use demo::script;
 use demo::session::{Next, Session};
 use demo::witness::{Unwatched, Witness};
 use melorwyth::{Fault, Status};
 use std::io::{self, ErrorKind, Read, Write};
-use std::net::{Ipv4Addr, SocketAddr, TcpListener, TcpStream};
+use std::net::{Ipv4Addr, SocketAddr, SocketAddrV4, TcpListener, TcpStream, UdpSocket};
 use std::sync::atomic::{AtomicBool, Ordering};
 use std::sync::{Arc, Mutex};
 use std::thread::{self, JoinHandle};
@@ -29,6 +30,16 @@ pub fn bad_value() -> String {
     let status = Status::BadValue.to_string();
     assert!(status.ends_with(" (status 7)"));
     status
+}
+
+/// Whether this machine carries a group's datagrams on its loopback address, to a socket bound so.
+pub fn group_works(bound: Ipv4Addr, group: Ipv4Addr) -> io::Result<()> {
+    let member = UdpSocket::bind((bound, 0))?;
+    member.join_multicast_v4(&group, &Ipv4Addr::LOCALHOST)?;
+    member.set_read_timeout(Some(Duration::from_secs(1)))?;
+    let to = SocketAddrV4::new(group, member.local_addr()?.port());
+    Restart { key: [0; 16], to }.send()?;
+    member.recv(&mut [0; 64]).map(drop)
 }
 
 /// What was printed so far.

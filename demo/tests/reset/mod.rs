@@ -1,6 +1,6 @@
 //! Reset by key, over real sockets of the loopback address.
 
-use super::hall::{Hall, Log, PATIENCE, Peer, bad_value};
+use super::hall::{Hall, Log, PATIENCE, Peer, bad_value, group_works};
 use super::program;
 use super::wire::{arm, asked, get, identifications, keyed, lock, reply, set, subscribe};
 use demo::restart::{Key, Restart};
@@ -190,20 +190,10 @@ fn a_refused_key_arms_nothing() {
     hall.end();
 }
 
-/// Whether this machine carries a group's datagrams on its loopback address.
-fn group_works() -> io::Result<()> {
-    let member = UdpSocket::bind((GROUP, 0))?;
-    member.join_multicast_v4(&GROUP, &Ipv4Addr::LOCALHOST)?;
-    member.set_read_timeout(Some(Duration::from_secs(1)))?;
-    let to = SocketAddrV4::new(GROUP, member.local_addr()?.port());
-    Restart { key: KEY, to }.send()?;
-    member.recv(&mut [0; 64]).map(drop)
-}
-
 /// The group's datagram resets, and so does one sent to the device itself.
 #[test]
 fn the_group_is_heard() {
-    if let Err(error) = group_works() {
+    if let Err(error) = group_works(GROUP, GROUP) {
         // not by the test's own output, which is shown only where it fails
         let skipped = "SKIPPED the_group_is_heard: no multicast on the loopback address";
         writeln!(io::stderr(), "{skipped}: {error}").unwrap();

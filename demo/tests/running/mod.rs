@@ -102,7 +102,10 @@ impl Host {
 
     /// What its first line says.
     fn told_address(&self) -> SocketAddr {
-        until("its first line", || !self.lines.text().is_empty());
+        let ended = || self.reader.as_ref().is_none_or(JoinHandle::is_finished);
+        until("its first line", || {
+            !self.lines.text().is_empty() || ended()
+        });
         let text = self.lines.text();
         let first = text.lines().next().unwrap_or_default();
         let address = first.strip_prefix("listening on ");

@@ -1,12 +1,10 @@
 //! Reset by key: a datagram restarts the host.
 
 use super::{Host, KEY, ask_value, eight, free_port, skipped, until};
-use crate::hall::Peer;
+use crate::hall::{Peer, group_works};
 use crate::wire::{arm, asked, lock, notified, set, subscribe};
 use demo::restart::{Key, Restart};
-use std::io;
 use std::net::{Ipv4Addr, SocketAddrV4, UdpSocket};
-use std::time::Duration;
 
 const OTHER: Key = *b"\x00front desk keY\xFF";
 const GROUP: Ipv4Addr = Ipv4Addr::new(239, 77, 70, 16);
@@ -107,21 +105,11 @@ fn arming_again_moves_the_port() {
     }
 }
 
-/// Whether this machine carries a group's datagrams on its loopback address.
-fn group_works() -> io::Result<()> {
-    let member = UdpSocket::bind((Ipv4Addr::UNSPECIFIED, 0))?;
-    member.join_multicast_v4(&GROUP, &Ipv4Addr::LOCALHOST)?;
-    member.set_read_timeout(Some(Duration::from_secs(1)))?;
-    let to = SocketAddrV4::new(GROUP, member.local_addr()?.port());
-    Restart { key: KEY, to }.send()?;
-    member.recv(&mut [0; 64]).map(drop)
-}
-
 /// The group's datagram resets, and so does one sent to the host itself.
 #[test]
 fn the_group_is_heard() {
     let Some(host) = Host::start() else { return };
-    if let Err(error) = group_works() {
+    if let Err(error) = group_works(Ipv4Addr::UNSPECIFIED, GROUP) {
         skipped(&format!(
             "the group: no multicast on the loopback address: {error}"
         ));
