@@ -285,7 +285,7 @@ extern "C" {
 #define MELORWYTH_STATUS_HELD_BY_OTHER 3   /* set, lock or unlock of a mute that another connection holds */
 #define MELORWYTH_STATUS_STRANGE_EMITTER 6 /* the emitter is no mute, or the event not 1.1 */
 #define MELORWYTH_STATUS_BAD_VALUE 7       /* mode not 1, a context above 64 bytes, a mute's value not 1 or 2;
-                                              3.14: port 0, or a text that is no multicast address */
+                                              3.14: port 0, or a text that is neither empty nor a multicast address */
 #define MELORWYTH_STATUS_OUT_OF_TURN 9     /* unlock of a mute that nobody holds; add of a subscription that is there,
                                               remove of one that is not */
 #define MELORWYTH_STATUS_NO_FREE_ENTRY 10  /* all 32 subscription entries are used */

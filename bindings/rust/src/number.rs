@@ -49,7 +49,7 @@ pub const STATUS_NO_OBJECT: u8 = 5;
 /// The emitter is no mute, or the event not 1.1.
 pub const STATUS_STRANGE_EMITTER: u8 = 6;
 /// Mode not 1, a context above 64 bytes, a mute's value not 1 or 2; 3.14: port 0, or a text that is
-/// no multicast address.
+/// neither empty nor a multicast address.
 pub const STATUS_BAD_VALUE: u8 = 7;
 /// Lock or unlock of a manager.
 pub const STATUS_FORBIDDEN: u8 = 8;

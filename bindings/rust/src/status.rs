@@ -17,7 +17,7 @@ pub enum Status {
     /// 6: the emitter is no mute, or the event not 1.1.
     StrangeEmitter,
     /// 7: mode not 1, a context above 64 bytes, a mute's value not 1 or 2; 3.14: port 0, or a text
-    /// that is no multicast address.
+    /// that is neither empty nor a multicast address.
     BadValue,
     /// 8: lock or unlock of a manager.
     Forbidden,
