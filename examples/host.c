@@ -288,6 +288,13 @@ static void admit(struct host *host)
 
 /* ---- the loop ---------------------------------------------------------------------- */
 
+static void hear_all(struct host *host, const struct pollfd *watched)
+{
+    for (uint8_t n = 0; n < MELORWYTH_CONNECTIONS; n++)
+        if (watched[n].revents != 0 && host->sockets[n] >= 0)
+            hear(host, n);
+}
+
 /* Time comes before what was heard, so that silence begins where it was heard. Arrivals come last, so that what poll
    said of a connection which has been closed since is not taken for the next of its number. */
 static void turn(struct host *host)
@@ -306,9 +313,7 @@ static void turn(struct host *host)
         return;
     if (watched[DATAGRAMS].revents != 0)
         hear_datagram(host);
-    for (uint8_t n = 0; n < MELORWYTH_CONNECTIONS; n++)
-        if (watched[n].revents != 0 && host->sockets[n] >= 0)
-            hear(host, n);
+    hear_all(host, watched);
     if (watched[LISTENER].revents != 0)
         admit(host);
 }

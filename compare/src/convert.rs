@@ -76,62 +76,38 @@ without_record! {
     Written { number, fault, length }
 }
 
-impl From<their_record::Device> for record::Device {
-    fn from(theirs: their_record::Device) -> Self {
-        let their_record::Device {
-            reading,
-            connections,
-            subscriptions,
-            mutes,
-            holders,
-            mechanism,
-        } = theirs;
-        record::Device {
-            reading,
-            connections: connections.map(Into::into),
-            subscriptions: subscriptions.map(Into::into),
-            mutes,
-            holders,
-            mechanism: mechanism.into(),
+/// The two that hold other structs, in one direction.
+macro_rules! holding {
+    ($from:ident to $into:ident) => {
+        impl From<$from::Device> for $into::Device {
+            fn from(device: $from::Device) -> Self {
+                let $from::Device {
+                    reading,
+                    connections,
+                    subscriptions,
+                    mutes,
+                    holders,
+                    mechanism,
+                } = device;
+                $into::Device {
+                    reading,
+                    connections: connections.map(Into::into),
+                    subscriptions: subscriptions.map(Into::into),
+                    mutes,
+                    holders,
+                    mechanism: mechanism.into(),
+                }
+            }
         }
-    }
+
+        impl From<$from::Record> for $into::Record {
+            fn from($from::Record { device, held }: $from::Record) -> Self {
+                let device = device.into();
+                $into::Record { device, held }
+            }
+        }
+    };
 }
 
-impl From<record::Device> for their_record::Device {
-    fn from(ours: record::Device) -> Self {
-        let record::Device {
-            reading,
-            connections,
-            subscriptions,
-            mutes,
-            holders,
-            mechanism,
-        } = ours;
-        their_record::Device {
-            reading,
-            connections: connections.map(Into::into),
-            subscriptions: subscriptions.map(Into::into),
-            mutes,
-            holders,
-            mechanism: mechanism.into(),
-        }
-    }
-}
-
-impl From<their_record::Record> for record::Record {
-    fn from(their_record::Record { device, held }: their_record::Record) -> Self {
-        record::Record {
-            device: device.into(),
-            held,
-        }
-    }
-}
-
-impl From<record::Record> for their_record::Record {
-    fn from(record::Record { device, held }: record::Record) -> Self {
-        their_record::Record {
-            device: device.into(),
-            held,
-        }
-    }
-}
+holding!(their_record to record);
+holding!(record to their_record);

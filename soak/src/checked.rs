@@ -36,7 +36,7 @@ impl Checked {
 
     /// Plays the call on the second program.
     fn play(&mut self, call: &Call) -> Answer {
-        let (record, area, output) = (self.record, &mut self.area[..], &mut self.output[..]);
+        let (record, area) = (self.record, &mut self.area[..]);
         match *call {
             Call::Fresh { reading } => {
                 self.record = Second.fresh(reading);
@@ -58,24 +58,28 @@ impl Checked {
                 self.record = answer.record;
                 row(answer.number, [answer.closed.into(), 0, 0, 0])
             }
-            Call::Deliver { n, piece, .. } => {
-                let answer = Second.deliver(record, area, n, piece, output);
-                self.record = answer.record;
-                let (kind, fault) = (answer.kind.into(), answer.fault.into());
-                row(answer.number, [kind, fault, answer.taken, answer.length])
-            }
-            Call::Take { .. } => {
-                let answer = Second.take(record, output);
-                self.record = answer.record;
-                let (kind, n) = (answer.kind.into(), answer.connection.into());
-                row(answer.number, [kind, n, answer.length, 0])
-            }
+            Call::Deliver { n, piece, .. } => self.deliver(n, piece),
+            Call::Take { .. } => self.take(),
             Call::Datagram { datagram, .. } => {
                 let answer = Second.datagram(record, area, datagram);
                 self.record = answer.record;
                 row(answer.number, [answer.reset.into(), 0, 0, 0])
             }
         }
+    }
+
+    fn deliver(&mut self, n: u8, piece: &[u8]) -> Answer {
+        let answer = Second.deliver(self.record, &mut self.area, n, piece, &mut self.output);
+        self.record = answer.record;
+        let (kind, fault) = (answer.kind.into(), answer.fault.into());
+        row(answer.number, [kind, fault, answer.taken, answer.length])
+    }
+
+    fn take(&mut self) -> Answer {
+        let answer = Second.take(self.record, &mut self.output);
+        self.record = answer.record;
+        let (kind, n) = (answer.kind.into(), answer.connection.into());
+        row(answer.number, [kind, n, answer.length, 0])
     }
 
     /// Whether both left the same, and what the rules say of it.

@@ -67,51 +67,56 @@ impl Report {
 
 impl fmt::Display for Report {
     fn fmt(&self, f: &mut fmt::Formatter) -> fmt::Result {
-        let counts = &self.counts;
-        let freed = &counts.freed;
+        let (calls, seconds) = (self.calls, self.time.as_secs_f64());
         writeln!(
             f,
-            "{} calls in {:.1} s, each held to the second program",
-            self.calls,
-            self.time.as_secs_f64()
+            "{calls} calls in {seconds:.1} s, each held to the second program"
         )?;
+        writeln!(f, "{}", self.counts)?;
+        let (before, most, after) = (self.before, self.most, self.after);
+        writeln!(
+            f,
+            "  descriptors {} before, {} at most, {} at last; threads {}, {}, {}; memory {} KiB early, {} late",
+            before.descriptors,
+            most.descriptors,
+            after.descriptors,
+            before.threads,
+            most.threads,
+            after.threads,
+            self.early.memory,
+            self.late.memory
+        )
+    }
+}
+
+impl fmt::Display for Counts {
+    fn fmt(&self, f: &mut fmt::Formatter) -> fmt::Result {
+        let freed = &self.freed;
         writeln!(
             f,
             "  {} ticks, {} pieces with {} messages and {} faults, {} takes with {} notifications and {} keep-alives",
-            counts.ticks,
-            counts.pieces,
-            counts.messages,
-            counts.faults,
-            counts.takes,
-            counts.notifications,
-            counts.keep_alives
+            self.ticks,
+            self.pieces,
+            self.messages,
+            self.faults,
+            self.takes,
+            self.notifications,
+            self.keep_alives
         )?;
         writeln!(
             f,
             "  {} openings, {} closings by the host, {} turned away as the ninth, {} datagrams with {} resets",
-            counts.opened, counts.closed, counts.turned_away, counts.datagrams, counts.resets
+            self.opened, self.closed, self.turned_away, self.datagrams, self.resets
         )?;
         writeln!(
             f,
             "  {} died; ticks closed {} and freed {} locks, each at its first tick from 3 x H on, at most {} ms behind",
-            counts.deaths, freed.connections, freed.locks, freed.behind
+            self.deaths, freed.connections, freed.locks, freed.behind
         )?;
-        writeln!(
+        write!(
             f,
             "  {} technicians were let in, none before 3 x H, at most {} ms behind it by their own clocks and tries",
-            counts.judged, counts.let_in_behind
-        )?;
-        writeln!(
-            f,
-            "  descriptors {} before, {} at most, {} at last; threads {}, {}, {}; memory {} KiB early, {} late",
-            self.before.descriptors,
-            self.most.descriptors,
-            self.after.descriptors,
-            self.before.threads,
-            self.most.threads,
-            self.after.threads,
-            self.early.memory,
-            self.late.memory
+            self.judged, self.let_in_behind
         )
     }
 }

@@ -38,26 +38,29 @@ fn every_status_comes_back_from_its_number() {
     }
 }
 
+/// The words before the number differ from each other: the number alone is not enough.
+fn told_apart(kind: &str, numbers: impl Iterator<Item = u8>, told: impl Fn(u8) -> String) {
+    let mut said = HashSet::new();
+    for number in numbers {
+        let text = told(number);
+        let (words, _) = text
+            .split_once(&format!(" ({kind} {number})"))
+            .unwrap_or_else(|| panic!("{text}"));
+        assert!(said.insert(words.to_string()), "{text}");
+    }
+}
+
+/// Each that has a name, and one that has none.
 #[test]
 fn each_says_its_number_in_words_of_its_own() {
-    let mut said = HashSet::new();
-    for number in 1..=12 {
-        let text = Refusal::from_numbers(number, 3)
-            .expect("a refusal")
-            .to_string();
-        assert!(text.contains(&format!("(refusal {number})")), "{text}");
-        assert!(said.insert(text));
-    }
-    for number in 0..=6 {
-        let text = Fault::from_number(number).to_string();
-        assert!(text.contains(&format!("(fault {number})")), "{text}");
-        assert!(said.insert(text));
-    }
-    for number in 0..=12 {
-        let text = Status::from_number(number).to_string();
-        assert!(text.contains(&format!("(status {number})")), "{text}");
-        assert!(said.insert(text));
-    }
+    let refusal = |number| Refusal::from_numbers(number, 3).expect("a refusal");
+    told_apart("refusal", 1..=12, |number| refusal(number).to_string());
+    told_apart("fault", 1..=7, |number| {
+        Fault::from_number(number).to_string()
+    });
+    told_apart("status", (0..=0).chain(3..=12), |number| {
+        Status::from_number(number).to_string()
+    });
     let fault = Refusal::Fault(Fault::Size).to_string();
     assert!(
         fault.contains("(refusal 8)") && fault.contains("(fault 3)"),

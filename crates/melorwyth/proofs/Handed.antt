@@ -11,7 +11,7 @@ both o b r s x y p q = (p .0 ∙ sym (q .0), p .1 ∙ sym (q .1))
 pub handed-tell : HandedTell
 handed-tell =
     record {
-      told = λ r s p q. p ∙ sym q;
+      version = λ r s p q. p ∙ sym q;
       fresh = λ reading r s p q. p ∙ sym q;
       cleared = λ area. both _ _;
       opened = λ state r s p q. p ∙ sym q;

@@ -100,7 +100,7 @@ KeepAliveHands buffer form value r left =
 
 -- Theorem. Each function's promise, as its contract states it, allows one struct, and leaves the bytes lent in one way.
 pub record HandedTell : Type 0 where
-  pub told : AllowsOne ℕ VersionHands
+  pub version : AllowsOne ℕ VersionHands
   pub fresh : (reading : ℕ) → AllowsOne Record (FreshHands reading)
   pub cleared : (area : List ℕ) → AllowsOneLent Cleared (ClearHands area)
   pub opened : (state : Record) → AllowsOne Opened (OpenHands state)
