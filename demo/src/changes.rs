@@ -43,10 +43,7 @@ pub fn closed(n: u8, why: Why, before: &Record) -> Event {
             Why::Fault(_) => 0,
             _ => before.held[usize::from(n)],
         },
-        freed: (0..MUTES)
-            .filter(|k| holders[*k] == n + 1)
-            .map(counted)
-            .collect(),
+        freed: channels(|k| holders[k] == n + 1),
     };
     Event::Closed { n, why, left }
 }
@@ -55,17 +52,15 @@ pub fn closed(n: u8, why: Why, before: &Record) -> Event {
 pub fn reset(before: &Record) -> Event {
     let numbers = 0..CONNECTIONS as u8;
     let device = &before.device;
-    let channels = |those: &dyn Fn(usize) -> bool| -> Vec<u8> {
-        let channels = (0..MUTES).filter(|k| those(*k));
-        channels.map(counted).collect()
-    };
+    let entries = device.subscriptions.iter();
     Event::Reset(Ended {
         closed: numbers.filter(|n| connection(before, *n).live).collect(),
         left: Left {
             undecided: before.held.iter().sum(),
-            freed: channels(&|k| device.holders[k] != 0),
+            freed: channels(|k| device.holders[k] != 0),
         },
-        unmuted: channels(&|k| device.mutes[k] == number::MUTED),
+        unmuted: channels(|k| device.mutes[k] == number::MUTED),
+        subscriptions: entries.filter(|entry| entry.used).count(),
     })
 }
 
@@ -91,11 +86,17 @@ fn connection(record: &Record, n: u8) -> Connection {
 }
 
 /// A heartbeat in the form in which it was set.
-fn beat(connection: &Connection) -> Heartbeat {
+pub fn beat(connection: &Connection) -> Heartbeat {
     match connection.form {
         number::FORM_SECONDS => Heartbeat::Seconds((connection.beat / 1_000) as u16),
         _ => Heartbeat::Milliseconds(connection.beat as u32),
     }
+}
+
+/// The channels of which this holds, told by their places.
+pub fn channels(those: impl Fn(usize) -> bool) -> Vec<u8> {
+    let places = (0..MUTES).filter(|k| those(*k));
+    places.map(counted).collect()
 }
 
 /// Channels are numbered from 1.
@@ -139,12 +140,9 @@ fn set(n: u8, k: usize, before: &Record, after: &Record) -> Option<Event> {
 
 /// A key that is set as it was is not seen.
 fn arming(n: u8, before: &Record, after: &Record) -> Option<Event> {
-    let is = after.device.mechanism;
-    let place = Place {
-        port: is.port,
-        group: is.address.into(),
-    };
-    (before.device.mechanism != is).then_some(Event::Armed { n, place })
+    let is = &after.device.mechanism;
+    let place = Place::of(is);
+    (before.device.mechanism != *is).then_some(Event::Armed { n, place })
 }
 
 /// An entry may be left and taken again within one message: another context tells that too, as no command changes it.
@@ -302,9 +300,11 @@ mod tests {
         before.device.connections[7].live = true;
         before.device.holders = [0, 3, 0, 0, 8, 0, 0, 0];
         before.device.mutes[4] = 1;
+        before.device.subscriptions[0] = entry(4_097);
+        before.device.subscriptions[31] = entry(4_097);
         before.held = [0, 0, 5, 0, 0, 0, 0, 8];
-        let line = "reset by key: closed connections 2, 7; 13 undecided bytes dropped; \
-                    channels 2, 5 are free; channel 5 is unmuted";
+        let line = "reset by key: closed connections 2, 7; 2 subscriptions ended; \
+                    13 undecided bytes dropped; channels 2, 5 are free; channel 5 is unmuted";
         assert_eq!(told(&[reset(&before)]), [line]);
     }
 

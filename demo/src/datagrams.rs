@@ -1,8 +1,10 @@
 //! The UDP sockets that the armed reset mechanism wants, all on the loopback address.
 
+use crate::events::Place;
+use crate::rack::Reset;
 use melorwyth::record::{KEY, Mechanism};
 use std::io;
-use std::net::{Ipv4Addr, SocketAddrV4, UdpSocket};
+use std::net::{Ipv4Addr, SocketAddr, SocketAddrV4, UdpSocket};
 
 /// No datagram is longer, so none is cut: the first 24 of 25 bytes would be another datagram.
 const LONGEST: usize = 65_536;
@@ -67,13 +69,28 @@ impl Datagrams {
         }
     }
 
-    /// The next datagram, if one has come; the sockets take turns.
-    pub fn received(&mut self) -> Option<&[u8]> {
+    /// The next datagram, if one has come, and who sent it; the sockets take turns.
+    pub fn received(&mut self) -> Option<(&[u8], SocketAddr)> {
         let count = self.sockets.len();
         self.sockets.rotate_left(count.min(1));
         let mut sockets = self.sockets.iter();
-        let length = sockets.find_map(|socket| socket.recv(&mut self.buffer).ok())?;
-        Some(&self.buffer[..length])
+        let (length, from) = sockets.find_map(|socket| socket.recv_from(&mut self.buffer).ok())?;
+        Some((&self.buffer[..length], from))
+    }
+
+    /// Whether, and where, a datagram to this mechanism would be heard now; the group comes last.
+    pub fn reset(&self, mechanism: &Mechanism) -> Reset {
+        let sockets = self.sockets.iter();
+        let mut listening: Vec<SocketAddr> = sockets
+            .filter_map(|socket| socket.local_addr().ok())
+            .collect();
+        listening.sort();
+        let place = Place::of(mechanism);
+        Reset {
+            on: self.on,
+            place: mechanism.armed.then_some(place),
+            listening,
+        }
     }
 }
 

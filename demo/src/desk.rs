@@ -2,15 +2,18 @@
 //! and makes every call.
 
 use crate::amplifier::Amplifier;
+use crate::board::Board;
 use crate::clock::Clock;
 use crate::datagrams::Datagrams;
 use crate::events::{Event, Why};
+use crate::rack::{Arrival, Arrivals, Rack};
 use crate::socket::{Heard, Socket, What};
 use crate::witness::{Unwatched, Witness};
 use melorwyth::record::CONNECTIONS;
 use std::fmt::Display;
 use std::io::{self, Write};
 use std::net::{SocketAddr, TcpListener, TcpStream};
+use std::sync::Arc;
 use std::sync::atomic::{AtomicBool, Ordering};
 use std::sync::mpsc::{self, Receiver, SyncSender};
 use std::thread::JoinHandle;
@@ -35,6 +38,10 @@ pub struct Desk<W, S = Unwatched> {
     inbox: Receiver<Heard>,
     outside: SyncSender<Heard>,
     lines: W,
+    address: SocketAddr,
+    /// Who had each number last.
+    arrivals: Arrivals,
+    board: Option<Arc<Board>>,
 }
 
 impl<W: Write> Desk<W> {
@@ -51,6 +58,7 @@ impl<W: Write, S: Witness> Desk<W, S> {
         witness: S,
     ) -> io::Result<Desk<W, S>> {
         listener.set_nonblocking(true)?;
+        let address = listener.local_addr()?;
         let (outside, inbox) = mpsc::sync_channel(WAITING);
         Ok(Desk {
             listener,
@@ -63,6 +71,9 @@ impl<W: Write, S: Witness> Desk<W, S> {
             inbox,
             outside,
             lines,
+            address,
+            arrivals: Default::default(),
+            board: None,
         })
     }
 
@@ -72,10 +83,17 @@ impl<W: Write, S: Witness> Desk<W, S> {
         self
     }
 
+    /// The same, put up on a board for whoever looks.
+    pub fn shown_on(mut self, board: Arc<Board>) -> Desk<W, S> {
+        self.board = Some(board);
+        self
+    }
+
     /// Runs until the stop is set, and then ends everything that it started.
     pub fn run(mut self, stop: &AtomicBool) -> io::Result<()> {
         let turned = self.turns(stop);
         let closed = self.close_all();
+        self.board.iter().for_each(|board| board.end());
         let Desk { inbox, ending, .. } = self;
         // readers that wait to hand over find nobody, and end
         drop(inbox);
@@ -86,8 +104,11 @@ impl<W: Write, S: Witness> Desk<W, S> {
     }
 
     fn turns(&mut self, stop: &AtomicBool) -> io::Result<()> {
-        let address = self.listener.local_addr()?;
+        let address = self.address;
         self.say(format_args!("listening on {address}"))?;
+        if let Some(page) = self.board.as_ref().map(|board| board.page) {
+            self.say(format_args!("the page is at http://{page}/"))?;
+        }
         while !stop.load(Ordering::Relaxed) {
             self.turn()?;
         }
@@ -100,10 +121,11 @@ impl<W: Write, S: Witness> Desk<W, S> {
         let wait = if arrived { Duration::ZERO } else { self.wait() };
         let heard = self.inbox.recv_timeout(wait);
         self.tick()?;
-        match heard {
-            Ok(heard) => self.hear(heard),
-            Err(_) => Ok(()),
+        if let Ok(heard) = heard {
+            self.hear(heard)?;
         }
+        self.show();
+        Ok(())
     }
 
     /// Until something is due, but no longer than a turn.
@@ -128,13 +150,17 @@ impl<W: Write, S: Witness> Desk<W, S> {
 
     /// Takes one datagram, if there is one.
     fn attend(&mut self) -> io::Result<bool> {
-        let Some(bytes) = self.datagrams.received().map(<[u8]>::to_vec) else {
+        let received = self.datagrams.received();
+        let Some((bytes, from)) = received.map(|(bytes, from)| (bytes.to_vec(), from)) else {
             return Ok(false);
         };
         self.tick()?;
         let event = self.amplifier.datagram(&bytes)?;
-        self.tell(&[event])?;
+        self.tell(std::slice::from_ref(&event))?;
         self.follow()?;
+        if let Some(board) = &self.board {
+            board.datagram(from, &event);
+        }
         Ok(true)
     }
 
@@ -153,6 +179,8 @@ impl<W: Write, S: Witness> Desk<W, S> {
         let Some(n) = self.amplifier.open()? else {
             return self.say(Event::Full);
         };
+        let at = self.amplifier.record().device.reading;
+        self.arrivals[usize::from(n)] = Some(Arrival { from, at });
         self.say(Event::Opened { n, from })?;
         self.serial += 1;
         match Socket::start(stream, self.serial, self.outside.clone()) {
@@ -259,8 +287,23 @@ impl<W: Write, S: Witness> Desk<W, S> {
     fn say(&mut self, what: impl Display) -> io::Result<()> {
         let reading = self.amplifier.record().device.reading;
         let line = format!("{reading:>8} ms  {what}\n");
+        if let Some(board) = &self.board {
+            board.say(self.rack(), what.to_string());
+        }
         self.lines.write_all(line.as_bytes())?;
         self.lines.flush()
+    }
+
+    fn show(&self) {
+        if let Some(board) = &self.board {
+            board.show(self.rack());
+        }
+    }
+
+    fn rack(&self) -> Rack {
+        let record = self.amplifier.record();
+        let reset = self.datagrams.reset(&record.device.mechanism);
+        Rack::of(record, self.address, &self.arrivals, reset)
     }
 }
 

@@ -1,6 +1,7 @@
 //! What happens at the amplifier, one line each.
 
 use crate::words;
+use melorwyth::record::Mechanism;
 use melorwyth::{Fault, Heartbeat, Status};
 use std::fmt;
 use std::net::{Ipv4Addr, SocketAddr};
@@ -112,6 +113,15 @@ pub struct Place {
     pub group: Ipv4Addr,
 }
 
+impl Place {
+    pub fn of(mechanism: &Mechanism) -> Place {
+        Place {
+            port: mechanism.port,
+            group: mechanism.address.into(),
+        }
+    }
+}
+
 /// What a reset ended.
 #[derive(Clone, Debug, Default, PartialEq, Eq)]
 pub struct Ended {
@@ -119,6 +129,7 @@ pub struct Ended {
     pub left: Left,
     /// The channels that were muted before.
     pub unmuted: Vec<u8>,
+    pub subscriptions: usize,
 }
 
 impl fmt::Display for Event {
@@ -202,8 +213,9 @@ impl fmt::Display for Place {
 impl fmt::Display for Ended {
     fn fmt(&self, f: &mut fmt::Formatter) -> fmt::Result {
         let closed = words::connections(&self.closed);
+        let subscriptions = words::subscriptions_ended(self.subscriptions);
         let unmuted = words::unmuted(&self.unmuted);
-        write!(f, "closed {closed}{}{unmuted}", self.left)
+        write!(f, "closed {closed}{subscriptions}{}{unmuted}", self.left)
     }
 }
 
@@ -295,6 +307,7 @@ mod tests {
                 closed: closed.to_vec(),
                 left: Left { undecided, freed },
                 unmuted: unmuted.to_vec(),
+                subscriptions: 0,
             })
         };
         said(

@@ -5,6 +5,7 @@
 #![warn(missing_debug_implementations)]
 
 pub mod amplifier;
+pub mod board;
 pub mod changes;
 pub mod clock;
 pub mod datagrams;
@@ -14,6 +15,8 @@ pub mod events;
 #[allow(unsafe_code)]
 pub mod interrupt;
 pub mod message;
+pub mod page;
+pub mod rack;
 pub mod restart;
 pub mod script;
 pub mod session;

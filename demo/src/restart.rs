@@ -27,12 +27,14 @@ impl Restart {
 
     /// Sends it from the loopback address, which it does not leave.
     pub fn send(&self) -> io::Result<()> {
-        let socket = UdpSocket::bind((Ipv4Addr::LOCALHOST, 0))?;
-        socket.set_multicast_loop_v4(true)?;
-        socket.set_multicast_ttl_v4(0)?;
+        self.send_by(&socket()?)
+    }
+
+    /// By a socket whose address is known, so that an answer by another way is known to be its own.
+    pub fn send_by(&self, socket: &UdpSocket) -> io::Result<()> {
         socket.connect(self.to)?;
         socket.send(&self.datagram())?;
-        match unheard(&socket)? {
+        match unheard(socket)? {
             true => Err(io::Error::other(format!(
                 "nobody listens on {}, UDP",
                 self.to
@@ -51,6 +53,14 @@ impl fmt::Display for Restart {
             self.to
         )
     }
+}
+
+/// A socket on the loopback address that sends to a group on this machine too, and no further.
+pub fn socket() -> io::Result<UdpSocket> {
+    let socket = UdpSocket::bind((Ipv4Addr::LOCALHOST, 0))?;
+    socket.set_multicast_loop_v4(true)?;
+    socket.set_multicast_ttl_v4(0)?;
+    Ok(socket)
 }
 
 /// Whether the port's own machine says that nobody listens there; a group says nothing.

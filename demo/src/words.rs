@@ -32,6 +32,26 @@ pub fn beat(beat: Heartbeat) -> String {
     }
 }
 
+/// A time that is left, in the two largest units that it has: rounded up, so that it is never less than it is.
+pub fn left(milliseconds: u64) -> String {
+    let up = |unit: u64| milliseconds.div_ceil(unit);
+    match milliseconds {
+        0..60_000 => format!("{}.{} s", up(100) / 10, up(100) % 10),
+        60_000..3_600_000 => format!("{} min {} s", up(1_000) / 60, up(1_000) % 60),
+        3_600_000..86_400_000 => format!("{} h {} min", up(60_000) / 60, up(60_000) % 60),
+        _ => format!("{} d {} h", up(3_600_000) / 24, up(3_600_000) % 24),
+    }
+}
+
+/// What waits to be whole; it is told because it does not put a closure off.
+pub fn unfinished(count: u16) -> String {
+    match count {
+        0 => "no bytes".to_string(),
+        1 => "1 byte of an unfinished message: it does not count as heard".to_string(),
+        _ => format!("{count} bytes of an unfinished message: they do not count as heard"),
+    }
+}
+
 /// Which channels are free now; nothing for none.
 pub fn free(channels: &[u8]) -> String {
     channels_are(channels, "free")
@@ -42,11 +62,19 @@ pub fn unmuted(channels: &[u8]) -> String {
     channels_are(channels, "unmuted")
 }
 
-fn channels_are(channels: &[u8], what: &str) -> String {
-    match channels {
+fn channels_are(those: &[u8], what: &str) -> String {
+    match those {
         [] => String::new(),
-        [one] => format!("; channel {one} is {what}"),
-        _ => format!("; channels {} are {what}", listed(channels)),
+        [_] => format!("; {} is {what}", channels(those)),
+        _ => format!("; {} are {what}", channels(those)),
+    }
+}
+
+pub fn channels(those: &[u8]) -> String {
+    match those {
+        [] => "no channel".to_string(),
+        [one] => format!("channel {one}"),
+        _ => format!("channels {}", listed(those)),
     }
 }
 
@@ -58,9 +86,18 @@ pub fn connections(numbers: &[u8]) -> String {
     }
 }
 
-fn listed(numbers: &[u8]) -> String {
-    let names: Vec<String> = numbers.iter().map(u8::to_string).collect();
+pub fn listed(those: &[impl ToString]) -> String {
+    let names: Vec<String> = those.iter().map(ToString::to_string).collect();
     names.join(", ")
+}
+
+/// How many subscriptions a reset ended; nothing for none.
+pub fn subscriptions_ended(count: usize) -> String {
+    match count {
+        0 => String::new(),
+        1 => "; 1 subscription ended".to_string(),
+        _ => format!("; {count} subscriptions ended"),
+    }
 }
 
 /// The group of an address; nothing for zeros, which are none.
@@ -147,6 +184,36 @@ mod tests {
     }
 
     #[test]
+    fn a_time_that_is_left_is_never_told_too_short() {
+        for (milliseconds, told) in [
+            (0, "0.0 s"),
+            (1, "0.1 s"),
+            (100, "0.1 s"),
+            (3_799, "3.8 s"),
+            (59_999, "60.0 s"),
+            (60_000, "1 min 0 s"),
+            (89_001, "1 min 30 s"),
+            (3_599_999, "60 min 0 s"),
+            (3_600_000, "1 h 0 min"),
+            (10_800_000, "3 h 0 min"),
+            (86_399_999, "24 h 0 min"),
+            (86_400_000, "1 d 0 h"),
+            (12_884_901_885, "149 d 4 h"),
+        ] {
+            assert_eq!(left(milliseconds), told);
+        }
+    }
+
+    #[test]
+    fn unfinished_bytes_are_said_not_to_count() {
+        assert_eq!(unfinished(0), "no bytes");
+        let told = "1 byte of an unfinished message: it does not count as heard";
+        assert_eq!(unfinished(1), told);
+        let told = "6 bytes of an unfinished message: they do not count as heard";
+        assert_eq!(unfinished(6), told);
+    }
+
+    #[test]
     fn what_a_closure_leaves_is_told() {
         assert_eq!(free(&[]), "");
         assert_eq!(free(&[5]), "; channel 5 is free");
@@ -154,6 +221,10 @@ mod tests {
         assert_eq!(unmuted(&[]), "");
         assert_eq!(unmuted(&[5]), "; channel 5 is unmuted");
         assert_eq!(connections(&[3]), "connection 3");
+        assert_eq!(channels(&[]), "no channel");
+        assert_eq!(subscriptions_ended(0), "");
+        assert_eq!(subscriptions_ended(1), "; 1 subscription ended");
+        assert_eq!(subscriptions_ended(32), "; 32 subscriptions ended");
         assert_eq!(undecided(0), "");
         assert_eq!(undecided(1), "; 1 undecided byte dropped");
         assert_eq!(undecided(13), "; 13 undecided bytes dropped");

@@ -9,7 +9,7 @@ mod wire;
 
 use demo::script;
 use demo::session::{Next, Session};
-use hall::{Hall, Log, PATIENCE, Peer, bad_data};
+use hall::{Hall, Log, PATIENCE, Peer, bad_data, program};
 use std::io::{BufRead, BufReader, Write};
 use std::process::{Command, Stdio};
 use std::thread;
@@ -343,18 +343,6 @@ fn the_controller_plays_the_question() {
         places.iter().all(Option::is_some) && places.is_sorted(),
         "{text}"
     );
-}
-
-/// A program of this package, emulated where the tests are.
-fn program(path: &str) -> Command {
-    match std::env::var("CARGO_TARGET_X86_64_UNKNOWN_LINUX_GNU_RUNNER") {
-        Ok(emulator) if cfg!(target_arch = "x86_64") && !emulator.is_empty() => {
-            let mut command = Command::new(emulator);
-            command.arg(path);
-            command
-        }
-        _ => Command::new(path),
-    }
 }
 
 /// The program itself, interrupted as by Ctrl-C.

@@ -8,8 +8,8 @@ mod running;
 #[allow(dead_code)]
 mod wire;
 
-use hall::{Controller, PATIENCE};
-use running::{Host, ask_value, eight, pause, rest, status, until};
+use hall::{Controller, PATIENCE, until};
+use running::{Host, ask_value, eight, pause, rest, status};
 use std::io::Write;
 use std::thread;
 use std::time::{Duration, Instant};

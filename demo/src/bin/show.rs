@@ -1,16 +1,23 @@
 //! `show [restart]`: the technician's question, or a rack restarted by key, in one terminal: the amplifier's lines
 //! and the controllers' side by side.
 
+use demo::board::Board;
 use demo::clock::Clock;
 use demo::desk::Desk;
 use demo::interrupt;
+use demo::page::Page;
 use demo::script;
 use demo::session::Session;
-use std::io::{self, Write};
+use std::io::{self, IsTerminal, Write};
 use std::net::{Ipv4Addr, TcpListener, UdpSocket};
 use std::process::ExitCode;
+use std::sync::Arc;
 use std::sync::atomic::Ordering;
 use std::thread;
+use std::time::{Duration, Instant};
+
+/// How long a show waits for a page to be opened.
+const TIME_TO_OPEN: Duration = Duration::from_secs(10);
 
 /// Standard output for one of two, whose lines are told apart by a name before each.
 #[derive(Debug)]
@@ -73,14 +80,36 @@ fn run(text: &str) -> io::Result<()> {
     interrupt::watch();
     let listener = TcpListener::bind((Ipv4Addr::LOCALHOST, 0))?;
     let address = listener.local_addr()?;
+    let page = Page::start(None)?;
     let desk = Desk::new(listener, Clock::starting_at(0), lines_of("amplifier"))?;
+    let desk = desk.shown_on(Arc::clone(&page.board));
     let commands = script::parse(text).map_err(io::Error::other)?;
-    thread::scope(|both| {
+    let played = thread::scope(|both| {
         let amplifier = both.spawn(|| desk.run(&interrupt::ENDING));
-        let asked = Session::new(address, lines_of("hall")).obey(commands);
+        let invited = invite(&page.board);
+        let asked = invited.and_then(|()| Session::new(address, lines_of("hall")).obey(commands));
         interrupt::ENDING.store(true, Ordering::Relaxed);
         let ended = amplifier.join();
         asked?;
         ended.map_err(|_| io::Error::other("the amplifier panicked"))?
-    })
+    });
+    played.and(page.end())
+}
+
+/// Says where to look. A person is given the time to open the page; without one it begins at once.
+fn invite(board: &Board) -> io::Result<()> {
+    let mut out = io::stdout().lock();
+    let person = out.is_terminal();
+    let begins = match person {
+        true => "; it begins when the page is open, or in 10 s",
+        false => "",
+    };
+    writeln!(out, "look at http://{}/ while it plays{begins}", board.page)?;
+    drop(out);
+    let start = Instant::now();
+    let waits = || !interrupt::ENDING.load(Ordering::Relaxed) && start.elapsed() < TIME_TO_OPEN;
+    while person && board.watchers() == 0 && waits() {
+        thread::sleep(Duration::from_millis(50));
+    }
+    Ok(())
 }

@@ -8,8 +8,10 @@ use demo::script;
 use demo::session::{Next, Session};
 use demo::witness::{Unwatched, Witness};
 use melorwyth::{Fault, Status};
+use std::env;
 use std::io::{self, ErrorKind, Read, Write};
 use std::net::{Ipv4Addr, SocketAddr, SocketAddrV4, TcpListener, TcpStream, UdpSocket};
+use std::process::Command;
 use std::sync::atomic::{AtomicBool, Ordering};
 use std::sync::{Arc, Mutex};
 use std::thread::{self, JoinHandle};
@@ -17,6 +19,33 @@ use std::time::{Duration, Instant};
 
 /// Long enough where the processor is busy.
 pub const PATIENCE: Duration = Duration::from_secs(20);
+
+/// Waits for what comes soon.
+pub fn until(what: &str, mut done: impl FnMut() -> bool) {
+    let start = Instant::now();
+    while !done() {
+        assert!(start.elapsed() < PATIENCE, "waited for: {what}");
+        thread::sleep(Duration::from_millis(5));
+    }
+}
+
+/// A UDP port that is free now.
+pub fn free_port() -> u16 {
+    let socket = UdpSocket::bind((Ipv4Addr::LOCALHOST, 0)).unwrap();
+    socket.local_addr().unwrap().port()
+}
+
+/// A program of this package, emulated where the tests are.
+pub fn program(path: &str) -> Command {
+    match env::var("CARGO_TARGET_X86_64_UNKNOWN_LINUX_GNU_RUNNER") {
+        Ok(emulator) if cfg!(target_arch = "x86_64") && !emulator.is_empty() => {
+            let mut command = Command::new(emulator);
+            command.arg(path);
+            command
+        }
+        _ => Command::new(path),
+    }
+}
 
 /// What a connection is closed for by an entry that is not well formed.
 pub fn bad_data() -> String {
@@ -115,10 +144,10 @@ impl Hall {
         Hall::open_as(0, witness, |desk| desk)
     }
 
-    fn open_as<S: Witness + Send + 'static>(
+    pub fn open_as<S: Witness + Send + 'static>(
         reading: u32,
         witness: S,
-        made: fn(Desk<Log, S>) -> Desk<Log, S>,
+        made: impl FnOnce(Desk<Log, S>) -> Desk<Log, S>,
     ) -> Hall {
         let listener = TcpListener::bind((Ipv4Addr::LOCALHOST, 0)).unwrap();
         let address = listener.local_addr().unwrap();
@@ -142,11 +171,7 @@ impl Hall {
         let count = || self.log.text().matches("opened connection").count();
         let before = count();
         let peer = Peer::connect(self.address);
-        let start = Instant::now();
-        while count() == before {
-            assert!(start.elapsed() < PATIENCE, "{}", self.log.text());
-            thread::sleep(Duration::from_millis(5));
-        }
+        until("its number", || count() != before);
         let text = self.log.text();
         let last = text
             .lines()
@@ -160,11 +185,7 @@ impl Hall {
     /// Asks for the end and waits for it; answers all that was printed.
     pub fn end(self) -> String {
         self.stop.store(true, Ordering::Relaxed);
-        let start = Instant::now();
-        while !self.thread.is_finished() {
-            assert!(start.elapsed() < PATIENCE, "no end:\n{}", self.log.text());
-            thread::sleep(Duration::from_millis(5));
-        }
+        until("its end", || self.thread.is_finished());
         self.thread.join().unwrap().unwrap();
         self.log.text()
     }

@@ -1,7 +1,6 @@
 //! Reset by key, over real sockets of the loopback address.
 
-use super::hall::{Hall, Log, PATIENCE, Peer, bad_value, group_works};
-use super::program;
+use super::hall::{Hall, Log, PATIENCE, Peer, bad_value, free_port, group_works, program};
 use super::wire::{arm, asked, get, identifications, keyed, lock, reply, set, subscribe};
 use demo::restart::{Key, Restart};
 use demo::script;
@@ -15,12 +14,6 @@ use std::time::Duration;
 pub const KEY: Key = *b"\x00front desk key\xFF";
 pub const OTHER: Key = *b"\x00front desk keY\xFF";
 const GROUP: Ipv4Addr = Ipv4Addr::new(239, 77, 70, 15);
-
-/// A UDP port that is free now.
-pub fn free_port() -> u16 {
-    let socket = UdpSocket::bind((Ipv4Addr::LOCALHOST, 0)).unwrap();
-    socket.local_addr().unwrap().port()
-}
 
 pub fn restart(key: Key, port: u16) -> Restart {
     let to = SocketAddrV4::new(Ipv4Addr::LOCALHOST, port);

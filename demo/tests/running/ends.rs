@@ -1,6 +1,7 @@
 //! What the program leaves behind: descriptors, its port, its exit code.
 
-use super::{Host, KEY, eight, free_port, program, until};
+use super::{Host, KEY, eight, program};
+use crate::hall::{free_port, until};
 use crate::wire::{arm, asked, lock};
 use std::net::{Ipv4Addr, TcpListener, TcpStream};
 

@@ -3,15 +3,15 @@
 mod ends;
 mod reset;
 
-use crate::hall::{Log, PATIENCE, Peer};
+use crate::hall::{Log, Peer, until};
 use crate::wire::{self, get, lock};
 use demo::restart::Key;
 use std::io::{self, ErrorKind, Read, Write};
-use std::net::{Ipv4Addr, SocketAddr, UdpSocket};
+use std::net::{Ipv4Addr, SocketAddr};
 use std::process::{Child, ChildStderr, Command, Stdio};
 use std::sync::Once;
 use std::thread::{self, JoinHandle};
-use std::time::{Duration, Instant};
+use std::time::Duration;
 use std::{env, fs};
 
 const KEY: Key = *b"\x00front desk key\xFF";
@@ -21,15 +21,6 @@ const VARIABLE: &str = "MELORWYTH_HOST";
 
 pub fn pause(milliseconds: u64) {
     thread::sleep(Duration::from_millis(milliseconds));
-}
-
-/// Waits for what comes soon.
-pub fn until(what: &str, mut done: impl FnMut() -> bool) {
-    let start = Instant::now();
-    while !done() {
-        assert!(start.elapsed() < PATIENCE, "waited for: {what}");
-        pause(5);
-    }
 }
 
 /// Says what is not tested, and not by the test's own output, which is shown only where it fails.
@@ -199,10 +190,4 @@ pub fn eight(host: &Host) -> Vec<Peer> {
         peer.ask(&lock(1, channel), 0);
     }
     peers
-}
-
-/// A UDP port that is free now.
-fn free_port() -> u16 {
-    let socket = UdpSocket::bind((Ipv4Addr::LOCALHOST, 0)).unwrap();
-    socket.local_addr().unwrap().port()
 }

@@ -1,7 +1,7 @@
 //! Reset by key: a datagram restarts the host.
 
-use super::{Host, KEY, ask_value, eight, free_port, skipped, until};
-use crate::hall::{Peer, group_works};
+use super::{Host, KEY, ask_value, eight, skipped};
+use crate::hall::{Peer, free_port, group_works, until};
 use crate::wire::{arm, asked, lock, notified, set, subscribe};
 use demo::restart::{Key, Restart};
 use std::net::{Ipv4Addr, SocketAddrV4, UdpSocket};

@@ -1,7 +1,7 @@
 //! A witness of every call that the amplifier makes on its endpoint.
 
-use super::hall::{Hall, Peer};
-use super::reset::{KEY, OTHER, free_port, restart};
+use super::hall::{Hall, Peer, free_port};
+use super::reset::{KEY, OTHER, restart};
 use super::wire::{arm, asked, lock, message, set, subscribe};
 use demo::witness::{Call, Came, Delivered, Witness};
 use melorwyth::record::{AREA, OUTPUT, Record};
