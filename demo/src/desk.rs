@@ -93,7 +93,6 @@ impl<W: Write, S: Witness> Desk<W, S> {
     pub fn run(mut self, stop: &AtomicBool) -> io::Result<()> {
         let turned = self.turns(stop);
         let closed = self.close_all();
-        self.board.iter().for_each(|board| board.end());
         let Desk { inbox, ending, .. } = self;
         // readers that wait to hand over find nobody, and end
         drop(inbox);

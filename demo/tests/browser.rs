@@ -12,6 +12,7 @@ mod wire;
 use chromium::Browser;
 use chromium::json::{self, Json, quoted};
 use chromium::tab::Tab;
+use demo::board::LINES;
 use demo::page::{PACE, Page};
 use demo::restart::Key;
 use demo::script;
@@ -241,6 +242,8 @@ fn to_the_key(tab: &Tab) {
         tab.key("Tab");
         presses += 1;
     }
+    let hidden = "document.activeElement.type === 'password'";
+    assert!(is(tab, hidden), "what is typed would be shown");
     let outline = "getComputedStyle(document.activeElement).outlineStyle !== 'none'";
     assert!(is(tab, outline), "the focus is not seen");
 }
@@ -257,6 +260,26 @@ fn send(tab: &Tab, key: &str, answer: &str) {
     let seen = tab.evaluate(seen).as_str().to_lowercase();
     assert!(!seen.contains(&key[..8].to_lowercase()));
     assert!(!seen.contains(&key[key.len() - 8..].to_lowercase()));
+}
+
+/// The newest first, and no more than are kept.
+#[test]
+fn the_events_are_bounded() {
+    let shown = Shown::open();
+    let Some((_browser, tab)) = looked_at(&shown, 1_280) else {
+        return;
+    };
+    let mut tablet = shown.hall.connect(0);
+    for k in 0..LINES as u32 {
+        tablet.ask(&set(k, 5, 1 + k as u8 % 2), 0);
+    }
+    tablet.ask(&lock(1, 5), 0);
+    says(&tab, "#events li .text", "connection 0 locked channel 5");
+    let (at, _) = shown.hall.log.line("connection 0 locked channel 5");
+    says(&tab, "#events li .at", &format!("{at} ms"));
+    let count = tab.evaluate("document.querySelectorAll('#events li').length");
+    assert_eq!(count.as_u64(), LINES as u64);
+    shown.end();
 }
 
 /// The amplifier ends and another begins: the figures are said to be old, and then they are those of the other.

@@ -1,7 +1,7 @@
 //! What the page's server sends back, and how.
 
 use super::refused::Refused;
-use std::io::{self, ErrorKind, Read, Write};
+use std::io::{self, Read, Write};
 use std::net::{Shutdown, TcpStream};
 use std::time::{Duration, Instant};
 
@@ -78,10 +78,8 @@ pub fn send(mut stream: &TcpStream, bytes: &[u8]) -> io::Result<()> {
     let deadline = Instant::now() + STALL;
     let mut rest = bytes;
     while !rest.is_empty() {
+        // where no time is left this fails, and that is the end of it
         let left = deadline.saturating_duration_since(Instant::now());
-        if left.is_zero() {
-            return Err(ErrorKind::TimedOut.into());
-        }
         stream.set_write_timeout(Some(left))?;
         let length = stream.write(rest)?;
         rest = &rest[length..];

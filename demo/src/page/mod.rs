@@ -151,7 +151,7 @@ impl Server {
     }
 
     fn answer(&self, stream: &TcpStream) -> io::Result<()> {
-        let mut incoming = Incoming::new(stream);
+        let mut incoming = Incoming::new(stream, &self.board);
         let request = incoming.request(self.address);
         match request.and_then(|request| self.wanted(&request, &mut incoming)) {
             Ok(Wanted::Whole(answer)) => answer.send(stream),

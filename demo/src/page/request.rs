@@ -1,6 +1,7 @@
 //! One request, read within limits of length and time.
 
 use super::refused::Refused;
+use crate::board::Board;
 use std::io::{ErrorKind, Read};
 use std::net::{SocketAddr, TcpStream};
 use std::time::{Duration, Instant};
@@ -65,7 +66,7 @@ impl Request {
     fn at(&self, address: SocketAddr) -> Result<(), Refused> {
         match &self.host {
             None => Err(Refused::Malformed("it names no Host")),
-            Some(host) if names(address).contains(host) => Ok(()),
+            Some(host) if names(address).contains(&host.to_ascii_lowercase()) => Ok(()),
             Some(_) => Err(Refused::Host),
         }
     }
@@ -105,14 +106,16 @@ fn length(value: &str) -> Result<usize, Refused> {
 #[derive(Debug)]
 pub struct Incoming<'a> {
     stream: &'a TcpStream,
+    board: &'a Board,
     deadline: Instant,
     buffer: Vec<u8>,
 }
 
-impl Incoming<'_> {
-    pub fn new(stream: &TcpStream) -> Incoming<'_> {
+impl<'a> Incoming<'a> {
+    pub fn new(stream: &'a TcpStream, board: &'a Board) -> Incoming<'a> {
         Incoming {
             stream,
+            board,
             deadline: Instant::now() + PATIENCE,
             buffer: Vec::new(),
         }
@@ -142,14 +145,13 @@ impl Incoming<'_> {
 
     fn line(&mut self, limit: usize, long: Refused) -> Result<String, Refused> {
         let end = loop {
-            let end = self.buffer.iter().position(|byte| *byte == b'\n');
-            match end.unwrap_or(self.buffer.len()) {
-                length if length > limit => return Err(long),
-                _ if end.is_some() => break end,
-                _ => self.more()?,
+            match self.buffer.iter().position(|byte| *byte == b'\n') {
+                Some(end) if end <= limit => break end,
+                None if self.buffer.len() <= limit => self.more()?,
+                _ => return Err(long),
             }
         };
-        let mut line: Vec<u8> = self.buffer.drain(..=end.unwrap_or(0)).collect();
+        let mut line: Vec<u8> = self.buffer.drain(..=end).collect();
         line.pop();
         line.pop_if(|last| *last == b'\r');
         let line = String::from_utf8(line).ok();
@@ -158,11 +160,12 @@ impl Incoming<'_> {
             .ok_or(Refused::Malformed("a line is no plain text"))
     }
 
-    /// Reads once more; a read that brings nothing is tried again until it has taken too long.
+    /// Reads once more; a read that brings nothing is tried again until it has taken too long, or all ends.
     fn more(&mut self) -> Result<(), Refused> {
         let mut piece = [0; 1_024];
         let mut stream = self.stream;
-        if Instant::now() >= self.deadline || stream.set_read_timeout(Some(SLICE)).is_err() {
+        let late = Instant::now() >= self.deadline || self.board.ended();
+        if late || stream.set_read_timeout(Some(SLICE)).is_err() {
             return Err(Refused::Slow);
         }
         match stream.read(&mut piece) {

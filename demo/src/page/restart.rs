@@ -38,7 +38,7 @@ fn place(board: &Board) -> Result<SocketAddrV4, Answer> {
     let rack = board.rack();
     let rack = rack.ok_or(Answer::said(UNARMED, "the amplifier has not begun"))?;
     match rack.reset.listening.first() {
-        Some(SocketAddr::V4(to)) if rack.reset.place.is_some() => Ok(*to),
+        Some(SocketAddr::V4(to)) => Ok(*to),
         _ => Err(Answer::said(UNARMED, rack.reset.to_string())),
     }
 }

@@ -8,6 +8,9 @@ use demo::board::LINES;
 use demo::page::{PACE, WATCHERS};
 use std::time::{Duration, Instant};
 
+/// What the system holds for a browser that reads nothing is filled by then, also where all is emulated.
+const LONGEST: Duration = Duration::from_secs(180);
+
 fn strip(message: &Json, channel: usize) -> &Json {
     message.at("channels").index(channel - 1)
 }
@@ -219,7 +222,7 @@ fn a_browser_that_takes_nothing_is_dropped() {
     let mut slowest = Duration::ZERO;
     let start = Instant::now();
     let (mut k, mut reading) = (0, 0);
-    while shown.page.board.watchers() == 2 && start.elapsed() < Duration::from_secs(60) {
+    while shown.page.board.watchers() == 2 && start.elapsed() < LONGEST {
         let asked = Instant::now();
         panel.ask(&set(k, 5, 1 + k as u8 % 2), 0);
         slowest = slowest.max(asked.elapsed());

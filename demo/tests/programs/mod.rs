@@ -1,18 +1,20 @@
 //! The programs themselves, and where they say that their page is.
 
-use crate::hall::{PATIENCE, program, until};
+use crate::hall::{Log, PATIENCE, program, until};
 use crate::visit::{Stream, ask};
 use std::fs;
-use std::io::{BufRead, BufReader, Lines, Write};
+use std::io::{self, Write};
 use std::net::{Ipv4Addr, SocketAddr, TcpListener, TcpStream};
-use std::process::{Child, ChildStdout, Command, Output, Stdio};
-use std::thread;
+use std::process::{Child, Command, Output, Stdio};
+use std::thread::{self, JoinHandle};
 use std::time::Duration;
 
 /// A program that runs, and what it prints. It does not outlive its test.
+#[derive(Debug)]
 struct Running {
     child: Child,
-    lines: Lines<BufReader<ChildStdout>>,
+    lines: Log,
+    reader: JoinHandle<io::Result<u64>>,
 }
 
 impl Drop for Running {
@@ -26,33 +28,39 @@ impl Drop for Running {
 impl Running {
     fn start(path: &str, words: &[&str]) -> Running {
         let mut command = program(path);
-        let mut child = command.args(words).stdout(Stdio::piped()).spawn().unwrap();
-        let lines = BufReader::new(child.stdout.take().unwrap()).lines();
-        Running { child, lines }
+        command.args(words).stdout(Stdio::piped());
+        let mut child = command.spawn().unwrap();
+        let mut output = child.stdout.take().unwrap();
+        let lines = Log::default();
+        let mut kept = lines.clone();
+        Running {
+            child,
+            lines,
+            reader: thread::spawn(move || io::copy(&mut output, &mut kept)),
+        }
     }
 
-    fn line(&mut self) -> String {
-        self.lines.next().expect("one more line").unwrap()
-    }
-
-    /// The address behind these words in the next line that has them.
-    fn address(&mut self, words: &str) -> SocketAddr {
-        let line = loop {
-            let line = self.line();
-            if line.contains(words) {
-                break line;
-            }
-        };
-        let (_, rest) = line.split_once(words).unwrap();
-        let (address, _) = rest.split_once('/').unwrap_or((rest, ""));
+    /// The address behind these words, once a line has them.
+    fn address(&self, words: &str) -> SocketAddr {
+        until(words, || self.lines.has(words));
+        let text = self.lines.text();
+        let (_, rest) = text.split_once(words).unwrap();
+        let (address, _) = rest.split_once(['/', '\n']).unwrap();
         address.parse().unwrap()
     }
 
-    fn interrupt(&mut self) -> Option<i32> {
+    /// All that it printed, and its code.
+    fn interrupt(&mut self) -> (Option<i32>, String) {
         let id = self.child.id().to_string();
         let killing = ["-c", "kill -INT \"$1\"", "kill", &id];
         assert!(Command::new("sh").args(killing).status().unwrap().success());
-        self.child.wait().unwrap().code()
+        self.ended()
+    }
+
+    fn ended(&mut self) -> (Option<i32>, String) {
+        until("its end", || self.reader.is_finished());
+        let code = self.child.wait().unwrap().code();
+        (code, self.lines.text())
     }
 }
 
@@ -80,7 +88,7 @@ fn both_ports_are_said_first() {
     let mut stream = Stream::open(page);
     let message = stream.message();
     assert_eq!(message.at("address").as_str(), address.to_string());
-    assert_eq!(amplifier.interrupt(), Some(0));
+    assert_eq!(amplifier.interrupt().0, Some(0));
     assert!(TcpStream::connect(page).is_err());
     while stream.next_message().is_some() {}
 }
@@ -89,21 +97,21 @@ fn both_ports_are_said_first() {
 #[test]
 fn two_amplifiers_have_two_pages() {
     let mut both = [0, 1].map(|_| Running::start(AMPLIFIER, &["0", "no-reset"]));
-    let [one, other] = both.each_mut().map(|amplifier| amplifier.address(AT));
+    let [one, other] = both.each_ref().map(|amplifier| amplifier.address(AT));
     assert_ne!(one, other);
     assert!(answers(one) && answers(other));
-    assert!(
-        both.iter_mut()
-            .all(|amplifier| amplifier.interrupt() == Some(0))
-    );
+    for amplifier in &mut both {
+        assert_eq!(amplifier.interrupt().0, Some(0));
+    }
 }
 
 #[test]
 fn a_page_is_not_had_to_be() {
     let mut amplifier = Running::start(AMPLIFIER, &["0", "no-page"]);
     amplifier.address("listening on ");
-    assert_eq!(amplifier.interrupt(), Some(0));
-    assert!(amplifier.line().ends_with("ended"));
+    let (code, text) = amplifier.interrupt();
+    assert_eq!((code, text.lines().count()), (Some(0), 2), "{text}");
+    assert!(text.ends_with("ended\n") && !text.contains(AT));
 }
 
 /// A port that was named and is taken ends the program, and wrong words do.
@@ -150,7 +158,7 @@ fn visits_leave_nothing_behind() {
         stream.message();
     }
     until("what was before", || open() == before);
-    assert_eq!(amplifier.interrupt(), Some(0));
+    assert_eq!(amplifier.interrupt().0, Some(0));
 }
 
 /// The show says where to look, and there it is to be seen.
@@ -166,6 +174,5 @@ fn the_show_says_where_to_look() {
     while stream.next_message().is_some() {
         assert!(start.elapsed() < PATIENCE);
     }
-    until("its end", || show.child.try_wait().unwrap().is_some());
-    assert_eq!(show.child.wait().unwrap().code(), Some(0));
+    assert_eq!(show.ended().0, Some(0));
 }

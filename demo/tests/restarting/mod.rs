@@ -36,54 +36,50 @@ fn lost(message: &Json) -> Vec<&str> {
     lost.map(Json::as_str).collect()
 }
 
+const UNARMED: &str = "not armed: no reset key is set";
+
 /// The front desk has the key alone, and no connection.
 #[test]
 fn the_form_restarts_the_rack() {
     let shown = Shown::open();
     let mut stream = shown.watch();
     assert!(stream.message().at("restart").is_null());
-    assert_eq!(reset_state(&shown), "not armed: no reset key is set");
-    told(
-        &shown.post(&format!("key={HEX}")),
-        409,
-        "not armed: no reset key is set",
-    );
-    let port = free_port();
-    let mut tablet = armed(&shown, port);
+    let mut tablet = armed(&shown, free_port());
     tablet.ask(&set(2, 5, 1), 0);
     tablet.ask(&lock(3, 5), 0);
     tablet.ask(&subscribe(4, 1, &[]), 0);
     tablet.send(&asked(&lock(5, 5))[..6]);
-    let state = format!("armed on UDP port {port}: listening on 127.0.0.1:{port}");
-    assert_eq!(reset_state(&shown), state);
-    let wrong = "a datagram of 24 bytes changed nothing: this is not the key that was set last";
-    told(&shown.post(&format!("key={OTHER}")), 403, wrong);
-    tablet.send(&[]);
-    until("six bytes", || {
-        shown.page.board.rack().unwrap().guests[0].undecided == 6
-    });
+    let undecided = || shown.page.board.rack().unwrap().guests[0].undecided;
+    until("six bytes", || undecided() == 6);
+    let ended = "closed connection 0; 1 subscription ended; 6 undecided bytes dropped; \
+        channel 5 is free; channel 5 is unmuted";
     let answer = shown.post(&format!("key={HEX}"));
-    let line = "reset by key: closed connection 0; 1 subscription ended; \
-        6 undecided bytes dropped; channel 5 is free; channel 5 is unmuted";
-    told(&answer, 200, line);
+    told(&answer, 200, &format!("reset by key: {ended}"));
     assert!(tablet.is_closed());
     let message = stream.until("what was lost", |message| !message.at("restart").is_null());
     let (at, _) = shown.hall.log.line("reset by key");
     assert_eq!(message.at("restart").at("at").as_u64(), u64::from(at));
-    let expected = [
-        "closed connection 0",
-        "1 subscription ended",
-        "6 undecided bytes dropped",
-        "channel 5 is free",
-        "channel 5 is unmuted",
-        "the reset key: it is not armed until one is set again",
-    ];
-    assert_eq!(lost(&message), expected);
-    told(
-        &shown.post(&format!("key={HEX}")),
-        409,
-        "not armed: no reset key is set",
-    );
+    let key = "the reset key: it is not armed until one is set again";
+    assert_eq!(lost(&message).join("; "), format!("{ended}; {key}"));
+    shown.end();
+}
+
+/// Before a key is set and after a restart nothing is sent; another key changes nothing.
+#[test]
+fn the_form_says_why_not() {
+    let shown = Shown::open();
+    let right = format!("key={HEX}");
+    assert_eq!(reset_state(&shown), UNARMED);
+    told(&shown.post(&right), 409, UNARMED);
+    let port = free_port();
+    let mut tablet = armed(&shown, port);
+    let state = format!("armed on UDP port {port}: listening on 127.0.0.1:{port}");
+    assert_eq!(reset_state(&shown), state);
+    let wrong = "a datagram of 24 bytes changed nothing: this is not the key that was set last";
+    told(&shown.post(&format!("key={OTHER}")), 403, wrong);
+    tablet.ask(&lock(2, 5), 0);
+    assert_eq!(shown.post(&right).status, 200);
+    told(&shown.post(&right), 409, UNARMED);
     shown.end();
 }
 
