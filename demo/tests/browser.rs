@@ -13,14 +13,14 @@ use chromium::Browser;
 use chromium::json::{self, Json, quoted};
 use chromium::tab::Tab;
 use demo::board::LINES;
-use demo::page::{PACE, Page};
+use demo::page::{PACE, Page, WATCHERS};
 use demo::restart::Key;
 use demo::script;
 use demo::session::Session;
-use hall::{Log, free_port};
+use hall::{Log, free_port, until};
 use std::net::TcpListener;
 use std::thread;
-use visit::Shown;
+use visit::{Shown, Stream};
 use wire::{arm, lock, set};
 
 const KEY: Key = *b"\x00front desk key\xFF";
@@ -279,6 +279,27 @@ fn the_events_are_bounded() {
     says(&tab, "#events li .at", &format!("{at} ms"));
     let count = tab.evaluate("document.querySelectorAll('#events li').length");
     assert_eq!(count.as_u64(), LINES as u64);
+    shown.end();
+}
+
+/// One too many gets no stream; it asks again by itself, until there is room.
+#[test]
+fn one_too_many_comes_again() {
+    let shown = Shown::open();
+    let watching: Vec<Stream> = (0..WATCHERS).map(|_| shown.watch()).collect();
+    let Some(browser) = Browser::start() else {
+        return;
+    };
+    let tab = browser.open(&format!("http://{}/", shown.at));
+    let asked = || {
+        let urls = tab.requested();
+        urls.iter().filter(|url| url.ends_with("/events")).count()
+    };
+    until("a second try", || asked() >= 2);
+    says(&tab, "#contact", "no contact with the amplifier yet");
+    drop(watching);
+    in_contact(&tab);
+    is_clean(&shown, &tab, "503");
     shown.end();
 }
 
