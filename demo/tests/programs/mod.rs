@@ -81,8 +81,8 @@ fn output(words: &[&str]) -> (Option<i32>, String) {
 #[test]
 fn both_ports_are_said_first() {
     let mut amplifier = Running::start(AMPLIFIER, &["0", "page", "0"]);
-    let address = amplifier.address("0 ms  listening on ");
-    let page = amplifier.address("0 ms  the page is at http://");
+    let address = amplifier.address(" ms  listening on ");
+    let page = amplifier.address(AT);
     assert!(address.ip().is_loopback() && page.ip().is_loopback());
     assert!(answers(page));
     let mut stream = Stream::open(page);
