@@ -28,6 +28,8 @@ struct Now {
     /// The newest comes last.
     lines: VecDeque<Line>,
     restart: Option<Restarted>,
+    /// Who is to be told what his datagram came to, and that.
+    awaited: Option<SocketAddr>,
     heard: Option<Heard>,
     watchers: usize,
     ended: bool,
@@ -48,10 +50,9 @@ pub struct Restarted {
     pub ended: Ended,
 }
 
-/// What the last datagram came to.
+/// What a datagram came to.
 #[derive(Clone, Debug, PartialEq, Eq)]
 pub struct Heard {
-    pub from: SocketAddr,
     pub reset: bool,
     pub line: String,
 }
@@ -104,7 +105,9 @@ impl Board {
         self.put(|now| {
             let at = now.rack.as_ref().map_or(0, |rack| rack.reading);
             let reset = matches!(event, Event::Reset(_));
-            now.heard = Some(Heard { from, reset, line });
+            if now.awaited == Some(from) {
+                now.heard = Some(Heard { reset, line });
+            }
             if let Event::Reset(ended) = event {
                 let ended = ended.clone();
                 now.restart = Some(Restarted { at, ended });
@@ -145,12 +148,19 @@ impl Board {
         })
     }
 
-    /// What a datagram from this address came to, once it was heard.
-    pub fn answer(&self, from: SocketAddr, patience: Duration) -> Option<Heard> {
-        let waits = |now: &mut Now| !now.ended && now.heard_from(from).is_none();
+    /// From now on a datagram from this address is awaited, and no other.
+    pub fn expect(&self, from: SocketAddr) {
+        let mut now = self.now();
+        now.awaited = Some(from);
+        now.heard = None;
+    }
+
+    /// What the datagram that is awaited came to, once it was heard.
+    pub fn answer(&self, patience: Duration) -> Option<Heard> {
+        let waits = |now: &mut Now| !now.ended && now.heard.is_none();
         let waited = self.changed.wait_timeout_while(self.now(), patience, waits);
         let (now, _) = waited.unwrap_or_else(PoisonError::into_inner);
-        now.heard_from(from).cloned()
+        now.heard.clone()
     }
 }
 
@@ -168,10 +178,6 @@ impl Now {
         if self.lines.len() > LINES {
             self.lines.pop_front();
         }
-    }
-
-    fn heard_from(&self, from: SocketAddr) -> Option<&Heard> {
-        self.heard.as_ref().filter(|heard| heard.from == from)
     }
 }
 
@@ -272,15 +278,20 @@ mod tests {
     fn an_answer_is_of_its_own_datagram() {
         let board = Board::at(HERE);
         let other = SocketAddr::from((Ipv4Addr::LOCALHOST, 1));
-        board.datagram(other, &Event::Ignored { length: 24 });
-        assert_eq!(board.answer(HERE, SOON), None);
-        assert!(!board.answer(other, SOON).unwrap().reset);
+        let ignored = Event::Ignored { length: 24 };
+        board.expect(HERE);
+        board.datagram(other, &ignored);
+        assert_eq!(board.answer(SOON), None);
         thread::scope(|both| {
-            let waiting = both.spawn(|| board.answer(HERE, LONG));
+            let waiting = both.spawn(|| board.answer(LONG));
             board.show(rack(9));
             board.datagram(HERE, &Event::Reset(Ended::default()));
+            board.datagram(other, &ignored);
             assert!(waiting.join().unwrap().unwrap().reset);
         });
+        // the next who waits is not told of this one
+        board.expect(other);
+        assert_eq!(board.answer(SOON), None);
         let restart = board.watch(1).unwrap().look(SOON).unwrap().restart;
         assert_eq!(restart.unwrap().at, 9);
     }
@@ -291,7 +302,7 @@ mod tests {
         let board = Board::at(HERE);
         board.show(rack(1));
         thread::scope(|all| {
-            let waiting = all.spawn(|| board.answer(HERE, LONG));
+            let waiting = all.spawn(|| board.answer(LONG));
             let mut watcher = board.watch(1).unwrap();
             watcher.look(SOON).unwrap();
             board.end();

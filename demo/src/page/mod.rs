@@ -90,7 +90,7 @@ struct Server {
     board: Arc<Board>,
     pace: Duration,
     visitors: AtomicUsize,
-    /// One restart at a time.
+    /// One restart at a time, as the board awaits one datagram.
     restarting: Mutex<()>,
 }
 

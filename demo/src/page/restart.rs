@@ -47,8 +47,9 @@ fn send(board: &Board, restart: Restart) -> Result<Answer, Answer> {
     let unsent = |error: io::Error| Answer::said(UNSENT, format!("not sent: {error}"));
     let socket = restart::socket().map_err(unsent)?;
     let own = socket.local_addr().map_err(unsent)?;
+    board.expect(own);
     restart.send_by(&socket).map_err(unsent)?;
-    match board.answer(own, PATIENCE) {
+    match board.answer(PATIENCE) {
         Some(heard) if heard.reset => Ok(Answer::said(DONE, heard.line)),
         Some(heard) => Err(Answer::said(
             OTHER_KEY,

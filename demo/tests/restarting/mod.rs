@@ -8,6 +8,9 @@ use demo::desk::Desk;
 use demo::page::PACE;
 use demo::restart::Key;
 use std::net::{Ipv4Addr, UdpSocket};
+use std::sync::atomic::{AtomicBool, Ordering};
+use std::thread;
+use std::time::Duration;
 
 const KEY: Key = *b"\x00front desk key\xFF";
 const HEX: &str = "0066726F6E74206465736B206B6579FF";
@@ -157,13 +160,37 @@ fn another_page_cannot_send_the_form() {
 fn two_forms_are_told_apart() {
     let shown = Shown::open();
     let _tablet = armed(&shown, free_port());
-    std::thread::scope(|both| {
+    thread::scope(|both| {
         let others: Vec<_> = (0..4)
             .map(|_| both.spawn(|| shown.post(&format!("key={OTHER}")).status))
             .collect();
         assert!(others.into_iter().all(|other| other.join().unwrap() == 403));
         let one = both.spawn(|| shown.post(&format!("key={HEX}")).status);
         assert_eq!(one.join().unwrap(), 200);
+    });
+    shown.end();
+}
+
+/// Others send datagrams to the same port meanwhile: the answer is that of the form's own.
+#[test]
+fn others_datagrams_are_not_its_own() {
+    let shown = Shown::open();
+    let port = free_port();
+    let _tablet = armed(&shown, port);
+    let sent = AtomicBool::new(false);
+    thread::scope(|both| {
+        both.spawn(|| {
+            let socket = UdpSocket::bind((Ipv4Addr::LOCALHOST, 0)).unwrap();
+            while !sent.load(Ordering::Relaxed) {
+                // where nobody listens any more the system says so
+                let _ = socket.send_to(&[0; 23], (Ipv4Addr::LOCALHOST, port));
+                thread::sleep(Duration::from_millis(1));
+            }
+        });
+        until("another's", || shown.hall.log.has("a datagram of 23 bytes"));
+        let answers = [OTHER, HEX].map(|key| shown.post(&format!("key={key}")).status);
+        sent.store(true, Ordering::Relaxed);
+        assert_eq!(answers, [403, 200]);
     });
     shown.end();
 }
