@@ -71,13 +71,10 @@ fn strip(channel: u32, part: &str) -> String {
 /// Everything came from the page's own server, and nothing was complained of but this.
 fn is_clean(shown: &Shown, tab: &Tab, known: &str) {
     let own = format!("http://{}/", shown.at);
-    for url in tab.requested() {
-        assert!(url.starts_with(&own) || url == "data:,", "{url}");
-    }
-    for complaint in tab.complaints() {
-        let told = !known.is_empty() && complaint.contains(known);
-        assert!(told, "{complaint}");
-    }
+    let elsewhere = |url: &String| !url.starts_with(&own) && url != "data:,";
+    assert_eq!(tab.requested().into_iter().find(elsewhere), None);
+    let strange = |complaint: &String| known.is_empty() || !complaint.contains(known);
+    assert_eq!(tab.complaints().into_iter().find(strange), None);
 }
 
 /// After each message the page keeps what channel 5 shows then, as one would see it.

@@ -92,31 +92,40 @@ fn wrong_paths_are_refused() {
     ] {
         refused(&shown, &format!("GET {path}{host}"), 404);
         refused(&shown, &format!("POST {path}{host}"), 404);
+        refused(&shown, &format!("HEAD {path}{host}"), 404);
     }
     shown.end();
+}
+
+/// The method that is taken there is named.
+fn not_allowed(shown: &Shown, method: &str, path: &str, allow: &str) {
+    let host = format!("Host: {}\r\n", shown.at);
+    let answer = shown.ask(&format!("{method} {path} HTTP/1.1\r\n{host}\r\n"));
+    assert_eq!(answer.status, 405, "{method} {path}");
+    assert_eq!(answer.header("Allow"), Some(allow));
+    is_guarded(&answer);
+    // an answer to HEAD has no body
+    assert_eq!(answer.body.is_empty(), method == "HEAD");
 }
 
 /// GET alone, but for the restart.
 #[test]
 fn wrong_methods_are_refused() {
     let shown = Shown::open();
-    let host = format!(" HTTP/1.1\r\nHost: {}\r\n\r\n", shown.at);
-    let refused = |path: &str, allow: &str, method: &str| {
-        let answer = shown.ask(&format!("{method} {path}{host}"));
-        assert_eq!(answer.status, 405, "{method} {path}");
-        assert_eq!(answer.header("Allow"), Some(allow));
-    };
-    for method in ["POST", "PUT", "DELETE", "OPTIONS", "get", "BREW"] {
-        refused("/", "GET", method);
-        refused("/page.css", "GET", method);
-        refused("/events", "GET", method);
+    for method in ["POST", "PUT", "DELETE", "OPTIONS", "HEAD", "get", "BREW"] {
+        not_allowed(&shown, method, "/", "GET");
+        not_allowed(&shown, method, "/page.css", "GET");
+        not_allowed(&shown, method, "/events", "GET");
     }
-    for method in ["GET", "PUT", "DELETE", "OPTIONS", "post", "BREW"] {
-        refused("/restart", "POST", method);
+    shown.end();
+}
+
+#[test]
+fn the_restart_takes_post_alone() {
+    let shown = Shown::open();
+    for method in ["GET", "PUT", "DELETE", "OPTIONS", "HEAD", "post", "BREW"] {
+        not_allowed(&shown, method, "/restart", "POST");
     }
-    // an answer to HEAD has no body
-    let head = shown.ask(&format!("HEAD /{host}"));
-    assert_eq!((head.status, head.body.as_str()), (405, ""));
     shown.end();
 }
 
@@ -239,12 +248,12 @@ fn a_body_has_its_limits() {
 fn the_slow_are_not_waited_for() {
     let shown = Shown::open();
     let mut panel = shown.hall.connect(0);
-    let mut slow: Vec<TcpStream> = (0..VISITORS - 4)
-        .map(|_| TcpStream::connect(shown.at).unwrap())
-        .collect();
-    for (k, stream) in slow.iter_mut().enumerate() {
+    let begun = |k: usize| {
+        let mut stream = TcpStream::connect(shown.at).unwrap();
         stream.write_all(&b"GET / HTTP/1.1\r\nHost: "[..k]).unwrap();
-    }
+        stream
+    };
+    let mut slow: Vec<TcpStream> = (0..VISITORS - 4).map(begun).collect();
     let start = Instant::now();
     assert_eq!(shown.get("/").status, 200);
     panel.ask(&lock(1, 5), 0);

@@ -46,6 +46,12 @@ impl Answer {
         Answer::new(status, PLAIN, line + "\n")
     }
 
+    /// Without its body, as HEAD is answered.
+    pub fn bare(mut self) -> Answer {
+        self.body.clear();
+        self
+    }
+
     pub fn send(&self, stream: &TcpStream) -> io::Result<()> {
         let front = front(self.status, self.kind);
         let allow = self.allow.map(|allow| format!("Allow: {allow}\r\n"));
@@ -57,13 +63,11 @@ impl Answer {
 
 impl From<Refused> for Answer {
     fn from(refused: Refused) -> Answer {
-        let status = refused.status();
-        let (answer, allow) = match refused {
-            // what answers HEAD has no body
-            Refused::Head => (Answer::new(status, PLAIN, ""), Some("GET")),
-            Refused::Method(allow) => (Answer::said(status, refused.to_string()), Some(allow)),
-            _ => (Answer::said(status, refused.to_string()), None),
+        let allow = match refused {
+            Refused::Method(allow) => Some(allow),
+            _ => None,
         };
+        let answer = Answer::said(refused.status(), refused.to_string());
         Answer { allow, ..answer }
     }
 }

@@ -153,16 +153,17 @@ impl Server {
     fn answer(&self, stream: &TcpStream) -> io::Result<()> {
         let mut incoming = Incoming::new(stream, &self.board);
         let request = incoming.request(self.address);
+        let head = request.as_ref().is_ok_and(|asked| asked.method == "HEAD");
         match request.and_then(|request| self.wanted(&request, &mut incoming)) {
             Ok(Wanted::Whole(answer)) => answer.send(stream),
             Ok(Wanted::Stream(watcher)) => self.stream(stream, watcher),
+            Err(refused) if head => Answer::from(refused).bare().send(stream),
             Err(refused) => Answer::from(refused).send(stream),
         }
     }
 
     fn wanted(&self, request: &Request, incoming: &mut Incoming) -> Result<Wanted<'_>, Refused> {
         match (request.path.as_str(), request.method.as_str()) {
-            (_, "HEAD") => Err(Refused::Head),
             ("/restart", "POST") => self.restart(request, incoming).map(Wanted::Whole),
             ("/restart", _) => Err(Refused::Method("POST")),
             ("/events", "GET") => {

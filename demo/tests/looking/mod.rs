@@ -204,9 +204,8 @@ fn lines_are_the_desks_and_bounded() {
     })));
     let text = shown.hall.log.text();
     let desk: Vec<&str> = text.lines().map(|line| &line[13..]).collect();
-    for (n, line) in lines.iter().chain(&late) {
-        assert_eq!(line, desk[*n as usize - 1]);
-    }
+    let own = |(n, line): &(u64, String)| line == desk[*n as usize - 1];
+    assert!(lines.iter().chain(&late).all(own), "{lines:?} {text}");
     assert!(lines.is_sorted_by(|one, next| one.0 < next.0));
     assert!(late.is_sorted_by(|one, next| one.0 + 1 == next.0));
     shown.end();

@@ -201,36 +201,31 @@ fn the_key_is_never_shown() {
     let shown = Shown::open();
     let mut stream = shown.watch();
     let _tablet = armed(&shown, free_port());
-    let mut seen = String::new();
-    for path in [
-        "/",
-        "/page.js",
-        "/page.css",
-        "/nowhere",
-        &format!("/restart?key={HEX}"),
-    ] {
-        let answer = shown.get(path);
-        seen += &(answer.head + &answer.body);
-    }
-    for body in [
+    let queried = format!("/restart?key={HEX}");
+    let paths = ["/", "/page.js", "/page.css", "/nowhere", &queried];
+    let got = paths.map(|path| shown.get(path));
+    let posted = [
         format!("key={HEX}0"),
         format!("key={HEX} "),
         HEX.to_string(),
         format!("key={OTHER}"),
         format!("key={HEX}"),
         format!("key={HEX}"),
-    ] {
-        let answer = shown.post(&body);
-        seen += &(answer.head + &answer.body);
-    }
+    ]
+    .map(|body| shown.post(&body));
+    let answers = got.into_iter().chain(posted);
+    let mut seen: String = answers.map(|answer| answer.head + &answer.body).collect();
     let message = stream.until("the restart", |message| !message.at("restart").is_null());
     seen += &format!("{message}{:?}", shown.page.board);
     seen += &shown.end();
-    let seen = seen.to_lowercase();
-    for key in [HEX, OTHER] {
-        for part in [&key[..8], &key[8..16], &key[16..24], &key[24..]] {
-            assert!(!seen.contains(&part.to_lowercase()), "{part}");
-        }
+    has_no_key(&seen.to_lowercase());
+}
+
+/// Not even a quarter of one.
+fn has_no_key(seen: &str) {
+    let keys = [HEX, OTHER].concat().to_lowercase();
+    for place in (0..keys.len()).step_by(8) {
+        assert!(!seen.contains(&keys[place..place + 8]));
     }
     assert!(!seen.contains("front desk"));
 }

@@ -11,21 +11,24 @@ use std::{env, fs};
 /// Where it names a file the picture of the page is written there.
 const VARIABLE: &str = "MELORWYTH_PICTURE";
 
-/// The busiest that there is: eight connections with a lock and four subscriptions each, half of them with half a message.
+/// The busiest that there is: eight connections, each with a lock, four subscriptions and half a message.
 fn crowd(shown: &Shown) -> Vec<Peer> {
-    let mut peers: Vec<Peer> = (0..8).map(|n| shown.hall.connect(n)).collect();
-    for (channel, peer) in (1..).zip(&mut peers) {
-        if channel % 2 == 0 {
-            peer.send(&seconds(65_535));
-            peer.expect(&seconds(65_535));
-        }
-        peer.ask(&lock(1, channel), 0);
-        for other in 1..=4 {
-            peer.ask(&subscribe(2, other, &[]), 0);
-        }
-        peer.send(&asked(&lock(3, 1))[..channel as usize]);
+    (1..=8).map(|channel| busy(shown, channel)).collect()
+}
+
+/// Every other one has the longest heartbeat in seconds.
+fn busy(shown: &Shown, channel: u8) -> Peer {
+    let mut peer = shown.hall.connect(channel - 1);
+    if channel.is_multiple_of(2) {
+        peer.send(&seconds(65_535));
+        peer.expect(&seconds(65_535));
     }
-    peers
+    peer.ask(&lock(1, channel.into()), 0);
+    for other in 1..=4 {
+        peer.ask(&subscribe(2, other, &[]), 0);
+    }
+    peer.send(&asked(&lock(3, 1))[..usize::from(channel)]);
+    peer
 }
 
 /// What stands out on the right, or is cut off there.
