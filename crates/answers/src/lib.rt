@@ -1,4 +1,6 @@
 // What the calls of a host answer, and each answer in its numbers.
+#![tactic(auto)]
+
 ghost use Rattle.std.specs.Prelude.{◌≡◌, ◌<◌};
 ghost use Rattle.numbers.specs.Kind.{kind_closed};
 ghost use Rattle.answers.specs.Numbers.{numbers_with, numbers_of};
@@ -7,14 +9,14 @@ ghost use Rattle.answers.specs.Numbers.{delivery_numbers, taking_numbers, resett
 ghost use Rattle.answers.specs.Tell.{AnswersTell};
 
 // Of the call that zeros an area.
-#[derive(Drop)]
+#[derive(Clone, Copy)]
 pub enum Clearing {
     Done,
     BadArea,
 }
 
 // Of an opening: the connection's number.
-#[derive(Drop)]
+#[derive(Clone, Copy)]
 pub enum Opening {
     Number(u8),
     BadRecord,
@@ -22,7 +24,7 @@ pub enum Opening {
 }
 
 // Of the host's close.
-#[derive(Drop)]
+#[derive(Clone, Copy)]
 pub enum Closing {
     Done,
     BadRecord,
@@ -31,7 +33,7 @@ pub enum Closing {
 }
 
 // Of a tick: the connections closed, a bit each.
-#[derive(Drop)]
+#[derive(Clone, Copy)]
 pub enum Ticking {
     Closed(u8),
     BadRecord,
@@ -40,7 +42,7 @@ pub enum Ticking {
 }
 
 // Of a delivery.
-#[derive(Drop)]
+#[derive(Clone, Copy)]
 pub enum Delivery {
     // how many bytes were taken
     More(usize),
@@ -55,7 +57,7 @@ pub enum Delivery {
 }
 
 // Of a taking.
-#[derive(Drop)]
+#[derive(Clone, Copy)]
 pub enum Taking {
     Nothing,
     // the connection, and the message's length
@@ -66,7 +68,7 @@ pub enum Taking {
 }
 
 // Of a datagram on the reset mechanism's port.
-#[derive(Drop)]
+#[derive(Clone, Copy)]
 pub enum Resetting {
     Nothing,
     Done,
@@ -75,7 +77,7 @@ pub enum Resetting {
 }
 
 // An answer's numbers in their order, and zeros behind them.
-#[derive(Drop)]
+#[derive(Clone, Copy)]
 pub struct Numbers {
     // 0, or the refusal
     pub number: u8,
@@ -110,6 +112,7 @@ fn refusal(number: u8) -> Numbers
 }
 
 impl Clearing {
+    #[tactic(auto, unfolding(crate::specs::Numbers::numbers_of))]
     pub fn numbers(self) -> Numbers
         ensures { result ≡ numbers_of (clearing_numbers self) }
     {
@@ -121,6 +124,7 @@ impl Clearing {
 }
 
 impl Opening {
+    #[tactic(auto, unfolding(crate::specs::Numbers::numbers_of))]
     pub fn numbers(self) -> Numbers
         ensures { result ≡ numbers_of (opening_numbers self) }
     {
@@ -133,6 +137,7 @@ impl Opening {
 }
 
 impl Closing {
+    #[tactic(auto, unfolding(crate::specs::Numbers::numbers_of))]
     pub fn numbers(self) -> Numbers
         ensures { result ≡ numbers_of (closing_numbers self) }
     {
@@ -146,6 +151,7 @@ impl Closing {
 }
 
 impl Ticking {
+    #[tactic(auto, unfolding(crate::specs::Numbers::numbers_of))]
     pub fn numbers(self) -> Numbers
         ensures { result ≡ numbers_of (ticking_numbers self) }
     {
@@ -160,6 +166,7 @@ impl Ticking {
 
 impl Delivery {
     // A closure's third number is a fault, and fits a byte.
+    #[tactic(auto, using(crate::proofs::Fits::fault_fits), unfolding(crate::specs::Numbers::numbers_of))]
     pub fn numbers(self) -> Numbers
         ensures { (result ≡ numbers_of (delivery_numbers self)) × (result.first ≡ kind_closed → result.third < 256) }
     {
@@ -177,6 +184,7 @@ impl Delivery {
 
 impl Taking {
     // The second number is a connection's, and fits a byte.
+    #[tactic(auto, using(crate::proofs::Fits::second_fits), unfolding(crate::specs::Numbers::numbers_of))]
     pub fn numbers(self) -> Numbers
         ensures { (result ≡ numbers_of (taking_numbers self)) × (result.second < 256) }
     {
@@ -191,6 +199,7 @@ impl Taking {
 }
 
 impl Resetting {
+    #[tactic(auto, unfolding(crate::specs::Numbers::numbers_of))]
     pub fn numbers(self) -> Numbers
         ensures { result ≡ numbers_of (resetting_numbers self) }
     {
@@ -204,6 +213,7 @@ impl Resetting {
 }
 
 // The numbers of an answer tell it from every other.
+#[tactic(auto, using(crate::proofs::Tells::answers_tell))]
 pub fn answers_tell()
     ensures { AnswersTell }
 {}

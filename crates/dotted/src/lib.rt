@@ -1,4 +1,6 @@
 // A text that is to be an IPv4 address in dotted decimal.
+#![tactic(auto)]
+
 ghost use Rattle.std.specs.Prelude.{◌≡◌, ◌∷◌, ◌≤◌, length};
 ghost use Rattle.laws.specs.Lists.{index};
 ghost use Rattle.dotted.specs.Text.{is_dot, is_digit, is_leading, digit_value, part_if, one_digit, two_digits, three_digits};
@@ -17,19 +19,20 @@ const NINE: u8 = 57;
 const GREATEST: u16 = 255;
 
 // What a text says: the address is all zero where the text is not sound.
-#[derive(Drop)]
+#[derive(Clone, Copy)]
 pub struct Dotted {
     pub sound: bool,
     pub address: [u8; 4],
 }
 
 // What one of the texts between the dots says.
-#[derive(Drop)]
+#[derive(Clone, Copy)]
 struct Part {
     sound: bool,
     number: u8,
 }
 
+#[tactic(auto, unfolding(crate::specs::Text::is_digit))]
 fn is_digit(x: u8) -> bool
     ensures { result ≡ is_digit x }
 {
@@ -37,6 +40,7 @@ fn is_digit(x: u8) -> bool
 }
 
 // A digit that may stand first of several.
+#[tactic(auto, unfolding(crate::specs::Text::is_leading))]
 fn is_leading(x: u8) -> bool
     ensures { result ≡ is_leading x }
 {
@@ -44,6 +48,7 @@ fn is_leading(x: u8) -> bool
 }
 
 // 0 for a byte below the digits, so that no caller has to ask first.
+#[tactic(auto, using(crate::proofs::Readings::value_below), unfolding(crate::specs::Text::digit_value))]
 fn value(x: u8) -> u16
     ensures { result ≡ digit_value x }
 {
@@ -53,6 +58,7 @@ fn value(x: u8) -> u16
     (x - ZERO) as u16
 }
 
+#[tactic(auto, using(crate::proofs::Readings::small, crate::proofs::Readings::part_taken, crate::proofs::Readings::part_refused))]
 fn part_if(digits: bool, n: u16) -> Part
     ensures { result ≡ part_if digits n }
 {
@@ -68,18 +74,21 @@ fn part_if(digits: bool, n: u16) -> Part
     }
 }
 
+#[tactic(auto, unfolding(crate::specs::Text::one_digit))]
 fn one_digit(a: u8) -> Part
     ensures { result ≡ one_digit a }
 {
     part_if(is_digit(a), value(a))
 }
 
+#[tactic(auto, unfolding(crate::specs::Text::digit_value, crate::specs::Text::two_digits))]
 fn two_digits(a: u8, b: u8) -> Part
     ensures { result ≡ two_digits a b }
 {
     part_if(is_leading(a) & is_digit(b), value(a) * 10 + value(b))
 }
 
+#[tactic(auto, using(crate::proofs::Readings::three_read), unfolding(crate::specs::Text::digit_value))]
 fn three_digits(a: u8, b: u8, c: u8) -> Part
     ensures { result ≡ three_digits a b c }
 {
@@ -89,6 +98,7 @@ fn three_digits(a: u8, b: u8, c: u8) -> Part
     )
 }
 
+#[tactic(auto, using(crate::proofs::Readings::part_one, crate::proofs::Readings::part_two, crate::proofs::Readings::part_three, crate::proofs::Readings::part_none))]
 fn part_of(s: &[u8]) -> Part
     ensures { result ≡ text_part s.now }
 {
@@ -108,6 +118,7 @@ fn part_of(s: &[u8]) -> Part
 }
 
 // The place of the first dot, or the length.
+#[tactic(auto, using(crate::proofs::Readings::dot_here, crate::proofs::Readings::no_dot, laws::proofs::Loops::searching_none, laws::proofs::Loops::searching_more, laws::proofs::Loops::searching_here, laws::proofs::Loops::searching_end))]
 fn first_dot(s: &[u8]) -> usize
     ensures { (result ≡ index is_dot s.now) × (result ≤ length s.now) }
 {
@@ -130,6 +141,7 @@ fn no_address() -> Dotted
     }
 }
 
+#[tactic(auto, using(crate::proofs::Readings::address_taken, crate::proofs::Readings::address_refused))]
 fn address(a: Part, b: Part, c: Part, d: Part) -> Dotted
     ensures { result ≡ four_parts a b c d }
 {
@@ -143,6 +155,7 @@ fn address(a: Part, b: Part, c: Part, d: Part) -> Dotted
 }
 
 // The text behind the second dot. No fifth part is looked for: a dot in the fourth is no digit.
+#[tactic(auto, using(crate::proofs::Fields::uncut, crate::proofs::Fields::only_three, crate::proofs::Fields::cut, crate::proofs::Fields::fourth))]
 fn behind_second(a: Part, b: Part, t: &[u8]) -> Dotted
     ensures { result ≡ of_parts (a ∷ b ∷ parts_of t.now) }
 {
@@ -153,6 +166,7 @@ fn behind_second(a: Part, b: Part, t: &[u8]) -> Dotted
     address(a, b, part_of(&t[0..i]), part_of(&t[i + 1..]))
 }
 
+#[tactic(auto, using(crate::proofs::Fields::uncut, crate::proofs::Fields::only_two, crate::proofs::Fields::cut))]
 fn behind_first(a: Part, t: &[u8]) -> Dotted
     ensures { result ≡ of_parts (a ∷ parts_of t.now) }
 {
@@ -163,6 +177,7 @@ fn behind_first(a: Part, t: &[u8]) -> Dotted
     behind_second(a, part_of(&t[0..i]), &t[i + 1..])
 }
 
+#[tactic(auto, using(crate::proofs::Fields::uncut, crate::proofs::Fields::only_one, crate::proofs::Fields::cut), unfolding(crate::specs::Text::dotted_of))]
 pub fn read(text: &[u8]) -> Dotted
     ensures { result ≡ dotted_of text.now }
 {
@@ -174,6 +189,7 @@ pub fn read(text: &[u8]) -> Dotted
 }
 
 // A text is sound exactly where it is the decimal text of four numbers of at most 255.
+#[tactic(auto, using(crate::proofs::Exacts::dotted_exact))]
 pub fn dotted_exact()
     ensures { DottedExact }
 {}

@@ -1,4 +1,6 @@
 // R15. A heartbeat's value: a kind for seconds and one for milliseconds, with the factor 1,000 as the only way from one to the other.
+#![tactic(auto)]
+
 ghost use Rattle.std.specs.Prelude.{◌≡◌, ◌*◌, ◌/◌, ◌≤◌};
 ghost use Rattle.heartbeat.specs.Beat.{form_of, value_of, beat_of};
 
@@ -11,13 +13,13 @@ pub const GREATEST_SECONDS: u32 = 65535;
 
 pub const GREATEST_MILLISECONDS: u32 = 4294967295;
 
-#[derive(Drop)]
+#[derive(Clone, Copy)]
 pub struct Seconds(pub u16);
 
-#[derive(Drop)]
+#[derive(Clone, Copy)]
 pub struct Milliseconds(pub u32);
 
-#[derive(Drop)]
+#[derive(Clone, Copy)]
 pub enum Heartbeat {
     InSeconds(Seconds),
     InMilliseconds(Milliseconds),
@@ -42,6 +44,7 @@ impl Milliseconds {
 }
 
 impl Heartbeat {
+    #[tactic(auto, unfolding(crate::specs::Beat::form_of))]
     pub fn form(self) -> u8
         ensures { result ≡ form_of self }
     {
@@ -52,6 +55,7 @@ impl Heartbeat {
     }
 
     // The value in the form's own unit.
+    #[tactic(auto, unfolding(crate::specs::Beat::value_of))]
     pub fn value(self) -> u32
         ensures { result ≡ value_of self }
     {
@@ -62,6 +66,7 @@ impl Heartbeat {
     }
 
     // H, in milliseconds.
+    #[tactic(auto, unfolding(crate::specs::Beat::beat_of))]
     pub fn milliseconds(self) -> Milliseconds
         ensures { result.0 ≡ beat_of self }
     {

@@ -1,4 +1,6 @@
 // The reset mechanism: its key, address and port, the arguments that arm it, and the datagram that it heeds.
+#![tactic(auto)]
+
 ghost use Rattle.std.specs.Prelude.{◌≡◌, cond, false, ◌≤◌, length};
 ghost use Rattle.octets.specs.Zeros.{all_zero};
 ghost use Rattle.octets.specs.Same.{same_bytes};
@@ -30,7 +32,7 @@ const FIRST_MULTICAST: u8 = 224;
 const LAST_MULTICAST: u8 = 239;
 
 #[repr(C)]
-#[derive(Drop)]
+#[derive(Clone, Copy)]
 pub struct Mechanism {
     pub armed: bool,
     pub key: [u8; 16],
@@ -40,13 +42,14 @@ pub struct Mechanism {
 }
 
 // What 3.14 makes of its arguments.
-#[derive(Drop)]
+#[derive(Clone, Copy)]
 pub struct Arming {
     pub taken: bool,
     pub mechanism: Mechanism,
 }
 
 // The text's length field tells the length of the whole.
+#[tactic(auto, using(crate::proofs::Laws::misfit_short, crate::proofs::Laws::misfit_told))]
 pub fn is_misfit(part: &[u8]) -> bool
     ensures { result ≡ is_misfit part.now }
 {
@@ -57,6 +60,7 @@ pub fn is_misfit(part: &[u8]) -> bool
     part.len() != BARE + text
 }
 
+#[tactic(auto, unfolding(crate::specs::Arguments::is_multicast))]
 fn is_multicast(address: [u8; 4]) -> bool
     ensures { result ≡ is_multicast address }
 {
@@ -64,6 +68,7 @@ fn is_multicast(address: [u8; 4]) -> bool
     (FIRST_MULTICAST <= first) & (first <= LAST_MULTICAST)
 }
 
+#[tactic(auto, unfolding(crate::specs::Arguments::is_group))]
 fn is_group(d: Dotted) -> bool
     ensures { result ≡ is_group d }
 {
@@ -72,6 +77,7 @@ fn is_group(d: Dotted) -> bool
     d.sound & multicast
 }
 
+#[tactic(auto, using(crate::proofs::Laws::key_copied))]
 fn key_in(part: &[u8]) -> [u8; 16]
     requires { 16 ≤ length part.now }
     ensures { result ≡ key_in part.now }
@@ -91,6 +97,7 @@ fn address_of(none: bool, read: Dotted) -> [u8; 4]
 }
 
 // The mechanism that the arguments arm, if the text and the port are taken.
+#[tactic(auto, using(crate::proofs::Laws::fitting, crate::proofs::Laws::arms_not, crate::proofs::Laws::arms))]
 pub fn arming_of(part: &[u8]) -> Arming
     requires { is_misfit part.now ≡ false }
     ensures { result ≡ arming_of part.now }
@@ -122,12 +129,14 @@ pub fn arming_of(part: &[u8]) -> Arming
     }
 }
 
+#[tactic(auto, using(octets::proofs::Scans::zero_whole))]
 fn is_none(address: [u8; 4]) -> bool
     ensures { result ≡ all_zero address }
 {
     octets::all_zero(&address[0..ADDRESS])
 }
 
+#[tactic(auto, using(octets::proofs::Scans::zero_whole))]
 fn is_blank(key: [u8; 16]) -> bool
     ensures { result ≡ all_zero key }
 {
@@ -135,6 +144,7 @@ fn is_blank(key: [u8; 16]) -> bool
 }
 
 // Every byte is looked at, wherever they differ.
+#[tactic(auto, using(crate::proofs::Laws::same_whole))]
 fn is_key(key: [u8; 16], given: &[u8]) -> bool
     ensures { result ≡ same_bytes given.now key }
 {
@@ -150,6 +160,7 @@ impl Mechanism {
     };
 
     // The record rules hold.
+    #[tactic(auto, using(crate::proofs::Laws::armed_obeys, crate::proofs::Laws::disarmed_obeys))]
     pub fn obeys(self) -> bool
         ensures { result ≡ mechanism_obeys self }
     {
@@ -166,6 +177,7 @@ impl Mechanism {
     }
 
     // The datagram is the sentinel and the key of a mechanism that is armed.
+    #[tactic(auto, using(crate::proofs::Laws::other_length, crate::proofs::Laws::resets_is))]
     pub fn resets(self, datagram: &[u8]) -> bool
         ensures { result ≡ resets self datagram.now }
     {
@@ -183,14 +195,17 @@ impl Mechanism {
 }
 
 // The theorems of the mechanism, as contracts of functions that do nothing: each has its line in the verdict.
+#[tactic(auto, using(crate::proofs::Kept::mechanism_kept))]
 pub fn mechanism_kept()
     ensures { MechanismKept }
 {}
 
+#[tactic(auto, using(crate::proofs::Kept::resets_exactly))]
 pub fn resets_exactly()
     ensures { ResetsExactly }
 {}
 
+#[tactic(auto, using(crate::proofs::Kept::addresses_taken))]
 pub fn addresses_taken()
     ensures { AddressesTaken }
 {}

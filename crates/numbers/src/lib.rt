@@ -1,4 +1,6 @@
 // The numbers of refusals, faults, kinds of answer and statuses, each once, by name.
+#![tactic(auto)]
+
 ghost use Rattle.std.specs.Prelude.{◌≡◌};
 ghost use Rattle.numbers.specs.Refusal.{refusals};
 ghost use Rattle.numbers.specs.Fault.{faults};
