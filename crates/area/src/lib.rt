@@ -1,4 +1,6 @@
 // The lent area of undecided bytes: its check, the gathering of a piece, and the clearing of a connection's part.
+#![tactic(auto)]
+
 ghost use Rattle.std.specs.Prelude.{◌≡◌, cond, ◌++◌, ◌+◌, ◌-◌, ◌≤◌, min, length};
 ghost use Rattle.frame.specs.Decide.{decide};
 ghost use Rattle.area.specs.Area.{part_bytes, area_bytes, part_at, part_sound, area_sound, undecided_of};
@@ -12,6 +14,7 @@ pub const PART: usize = frame::LONGEST_MESSAGE;
 pub const AREA: usize = 16392;
 
 // R4. A connection's part has held undecided bytes in front, and zeros behind them.
+#[tactic(auto, using(crate::proofs::Sounds::part_waits, crate::proofs::Sounds::part_decided, crate::proofs::Sounds::part_long, laws::proofs::Parts::rest), unfolding(frame::specs::Decide::settled))]
 fn part_sound(part: &[u8], held: u16) -> bool
     requires { length part.now ≡ part_bytes }
     ensures { result ≡ part_sound held part.now }
@@ -28,6 +31,7 @@ fn part_sound(part: &[u8], held: u16) -> bool
     }
 }
 
+#[tactic(auto, using(crate::proofs::Sounds::seeing_none, crate::proofs::Sounds::seeing_not, crate::proofs::Sounds::seeing_more, crate::proofs::Sounds::seeing_all))]
 fn parts_sound(area: &[u8], held: [u16; 8]) -> bool
     requires { length area.now ≡ area_bytes }
     ensures { result ≡ area_sound held area.now }
@@ -45,6 +49,7 @@ fn parts_sound(area: &[u8], held: [u16; 8]) -> bool
 }
 
 // R63. Refusal 2 does not apply to the area.
+#[tactic(auto, using(laws::proofs::Conds::tests), unfolding(crate::specs::Area::area_sound))]
 pub fn area_sound(area: &[u8], held: [u16; 8]) -> bool
     ensures { result ≡ area_sound held area.now }
 {
@@ -64,6 +69,7 @@ pub fn fitting(k: usize, length: usize) -> usize
 }
 
 // The piece, as far as it fits, behind connection n's k undecided bytes; and what they all decide.
+#[tactic(auto, using(crate::proofs::Gathers::room, crate::proofs::Gathers::copied, crate::proofs::Gathers::looked, crate::proofs::Gathers::same_decision))]
 pub fn gather(area: &mut [u8], n: usize, k: usize, piece: &[u8]) -> frame::Decision
     requires { Lying area.old n k }
     ensures { (result ≡ decide (undecided_of area.old n k ++ piece.now))
@@ -77,6 +83,7 @@ pub fn gather(area: &mut [u8], n: usize, k: usize, piece: &[u8]) -> frame::Decis
 }
 
 // Connection n's part all zeros.
+#[tactic(auto, using(octets::proofs::Scans::length_zeros, laws::proofs::Stores::sets_mid), unfolding(crate::specs::Area::part_cleared))]
 pub fn clear_part(area: &mut [u8], n: usize)
     requires { part_at n + part_bytes ≤ length area.old }
     ensures { area.new ≡ part_cleared area.old n }
@@ -87,6 +94,7 @@ pub fn clear_part(area: &mut [u8], n: usize)
 }
 
 // The same where only the first `used` bytes need it: a message is mostly far shorter than its part.
+#[tactic(auto, using(crate::proofs::Clears::used_cleared, octets::proofs::Scans::length_zeros, laws::proofs::Stores::sets_mid))]
 pub fn clear_used(area: &mut [u8], n: usize, used: usize)
     requires { (part_at n + part_bytes ≤ length area.old) × (used ≤ part_bytes) × ZerosBehind area.old n used }
     ensures { area.new ≡ part_cleared area.old n }
@@ -107,6 +115,7 @@ fn clear_unless(area: &mut [u8], n: usize, live: bool)
 }
 
 // The part of each connection that is not open all zeros.
+#[tactic(auto, using(crate::proofs::Clears::clearing_none, crate::proofs::Clears::clearing_more, crate::proofs::Clears::clearing_all))]
 pub fn clear_closed(area: &mut [u8], lives: [bool; 8])
     requires { length area.old ≡ area_bytes }
     ensures { area.new ≡ closed_cleared lives area.old }
@@ -118,6 +127,7 @@ pub fn clear_closed(area: &mut [u8], lives: [bool; 8])
     }
 }
 
+#[tactic(auto, unfolding(crate::specs::Area::count_obeys))]
 fn count_obeys(live: bool, k: u16) -> bool
     ensures { result ≡ count_obeys live k }
 {
@@ -128,6 +138,7 @@ fn count_obeys(live: bool, k: u16) -> bool
 }
 
 // Every count of undecided bytes keeps the record rules.
+#[tactic(auto, using(crate::proofs::Counts::counting_none, crate::proofs::Counts::counting_not, crate::proofs::Counts::counting_more, crate::proofs::Counts::counting_all))]
 pub fn held_obey(lives: [bool; 8], held: [u16; 8]) -> bool
     ensures { result ≡ held_obeys lives held }
 {
@@ -148,6 +159,7 @@ fn count_kept(live: bool, k: u16) -> u16
 }
 
 // The count of each connection that is not open 0.
+#[tactic(auto, using(crate::proofs::Counts::keeping_none, crate::proofs::Counts::keeping_more, crate::proofs::Counts::keeping_all))]
 pub fn held_kept(lives: [bool; 8], held: [u16; 8]) -> [u16; 8]
     ensures { result ≡ held_kept lives held }
 {

@@ -1,4 +1,6 @@
 // An entry's fields and its parameters, and the heartbeat that a keep-alive carries; in the definitions, where an entry stands.
+#![tactic(auto)]
+
 ghost use Rattle.std.specs.Prelude.{◌≡◌, true, ◌+◌, ◌≤◌, length};
 ghost use Rattle.frame.specs.Limits.{notification};
 ghost use Rattle.frame.specs.Entry.{parameter_offset};
@@ -41,6 +43,7 @@ pub struct ResponseFields {
 }
 
 // The entry's parameters, as a part of it.
+#[tactic(auto, using(frame::proofs::Entries::offset_low, laws::proofs::Parts::rest), unfolding(crate::specs::Place::parameters_of))]
 pub fn parameters<'a>(kind: u8, e: &'a [u8]) -> &'a [u8]
     requires { parameter_offset kind e.now ≤ length e.now }
     ensures { result.now ≡ parameters_of kind e.now }
@@ -49,6 +52,7 @@ pub fn parameters<'a>(kind: u8, e: &'a [u8]) -> &'a [u8]
     &e[offset..]
 }
 
+#[tactic(auto, unfolding(crate::specs::Fields::method_at))]
 fn method_at(e: &[u8], at: usize) -> Method
     requires { at + 4 ≤ length e.now }
     ensures { result ≡ method_at e.now at }
@@ -59,6 +63,7 @@ fn method_at(e: &[u8], at: usize) -> Method
     }
 }
 
+#[tactic(auto, unfolding(crate::specs::Fields::command_of))]
 pub fn command_of(e: &[u8]) -> CommandFields
     requires { 17 ≤ length e.now }
     ensures { result ≡ command_of e.now }
@@ -71,6 +76,7 @@ pub fn command_of(e: &[u8]) -> CommandFields
     }
 }
 
+#[tactic(auto, using(frame::proofs::Entries::offset_notification), unfolding(crate::specs::Fields::notification_of, frame::specs::Entry::context_count))]
 pub fn notification_of(e: &[u8]) -> NotificationFields
     requires { parameter_offset notification e.now ≤ length e.now }
     ensures { result ≡ notification_of e.now }
@@ -87,6 +93,7 @@ pub fn notification_of(e: &[u8]) -> NotificationFields
     }
 }
 
+#[tactic(auto, unfolding(crate::specs::Fields::response_of))]
 pub fn response_of(e: &[u8]) -> ResponseFields
     requires { 10 ≤ length e.now }
     ensures { result ≡ response_of e.now }
@@ -99,6 +106,7 @@ pub fn response_of(e: &[u8]) -> ResponseFields
 }
 
 // The heartbeat of a keep-alive's data.
+#[tactic(auto, using(crate::proofs::Places::keep_long), unfolding(crate::specs::Fields::heartbeat_of))]
 pub fn heartbeat_of(body: &[u8]) -> Heartbeat
     requires { keep_alive_fill body.now ≡ true }
     ensures { result ≡ heartbeat_of body.now }

@@ -1,4 +1,6 @@
 // The limits, the header, the deciding byte and the walk over a message's entries.
+#![tactic(auto)]
+
 ghost use Rattle.std.specs.Prelude.{◌≡◌, false, ◌+◌, ◌-◌, ◌^◌, ◌<◌, ◌≤◌, length};
 ghost use Rattle.octets.specs.Numbers.{be32_at};
 ghost use Rattle.frame.specs.Header.{count_fault, fields_fault, header_fault};
@@ -72,6 +74,7 @@ struct Walked {
     rest: usize,
 }
 
+#[tactic(auto, using(laws::proofs::Conds::tests), unfolding(crate::specs::Header::count_fault))]
 fn count_fault(kind: u8, count: u16) -> u8
     ensures { result ≡ count_fault kind count }
 {
@@ -88,6 +91,7 @@ fn count_fault(kind: u8, count: u16) -> u8
 }
 
 // The first fault of the header's fields, 2 to 5, or 0.
+#[tactic(auto, using(laws::proofs::Conds::tests), unfolding(crate::specs::Header::fields_fault))]
 fn fields_fault(version: u16, size: u32, kind: u8, count: u16) -> u8
     ensures { result ≡ fields_fault version size kind count }
 {
@@ -106,6 +110,7 @@ fn fields_fault(version: u16, size: u32, kind: u8, count: u16) -> u8
     count_fault(kind, count)
 }
 
+#[tactic(auto, unfolding(crate::specs::Header::header_fault))]
 fn header_fault(s: &[u8]) -> u8
     requires { 10 ≤ length s.now }
     ensures { result ≡ header_fault s.now }
@@ -119,6 +124,7 @@ fn header_fault(s: &[u8]) -> u8
 }
 
 // The least size of an entry, without its context.
+#[tactic(auto, using(laws::proofs::Conds::tests), unfolding(crate::specs::Entry::least_entry))]
 pub fn least_entry(kind: u8) -> usize
     ensures { result ≡ least_entry kind }
 {
@@ -132,6 +138,7 @@ pub fn least_entry(kind: u8) -> usize
 }
 
 // How many bytes the context has of the entry at the front of e: a notification's, which others have not. Nothing is checked.
+#[tactic(auto, using(crate::proofs::Entries::least_notification_lem), unfolding(crate::specs::Entry::context_count))]
 pub fn context_count(kind: u8, e: &[u8]) -> usize
     requires { least_entry kind ≤ length e.now }
     ensures { (result ≡ context_count kind e.now) × (result < 2 ^ 16) }
@@ -143,6 +150,7 @@ pub fn context_count(kind: u8, e: &[u8]) -> usize
 }
 
 // Where the parameters start of the entry at the front of e.
+#[tactic(auto, using(crate::proofs::Entries::least_holds), unfolding(crate::specs::Entry::parameter_offset))]
 pub fn parameter_offset(kind: u8, e: &[u8]) -> usize
     requires { least_entry kind ≤ length e.now }
     ensures { (result ≡ parameter_offset kind e.now) × (result < 2 ^ 17) }
@@ -150,6 +158,7 @@ pub fn parameter_offset(kind: u8, e: &[u8]) -> usize
     least_entry(kind) + context_count(kind, e)
 }
 
+#[tactic(auto, unfolding(crate::specs::Entry::is_context_bad))]
 fn is_context_bad(kind: u8, t: &[u8]) -> bool
     requires { least_entry kind ≤ length t.now }
     ensures { result ≡ is_context_bad kind t.now }
@@ -157,6 +166,7 @@ fn is_context_bad(kind: u8, t: &[u8]) -> bool
     (GREATEST_CONTEXT < context_count(kind, t)) | (t.len() < parameter_offset(kind, t))
 }
 
+#[tactic(auto, using(laws::proofs::Conds::tests), unfolding(crate::specs::Entry::count_place))]
 fn count_place(kind: u8) -> usize
     ensures { result ≡ count_place kind }
 {
@@ -169,6 +179,7 @@ fn count_place(kind: u8) -> usize
     places::RESPONSE_COUNT
 }
 
+#[tactic(auto, using(laws::proofs::Conds::tests), unfolding(crate::specs::Entry::least_count))]
 fn least_count(kind: u8) -> u8
     ensures { result ≡ least_count kind }
 {
@@ -179,6 +190,7 @@ fn least_count(kind: u8) -> u8
 }
 
 // least is the count that has no parameter bytes; above it there is at least one.
+#[tactic(auto, using(laws::proofs::Conds::tests), unfolding(crate::specs::Entry::count_fits))]
 fn count_fits(least: u8, count: u8, bytes: usize) -> bool
     ensures { result ≡ count_fits least count bytes }
 {
@@ -192,6 +204,7 @@ fn count_fits(least: u8, count: u8, bytes: usize) -> bool
 }
 
 // The entry check: part is the message from the entry's parameter offset on.
+#[tactic(auto, unfolding(crate::specs::Entry::entry_fits))]
 fn entry_fits(kind: u8, offset: usize, size: usize, count: u8, part: &[u8]) -> bool
     ensures { result ≡ entry_fits kind offset size count part.now }
 {
@@ -213,6 +226,7 @@ pub fn given_size(t: &[u8]) -> usize
 }
 
 // The check of an entry, which the walk alone makes: the size of the well formed entry at the front of t, or 0 where there is none.
+#[tactic(auto, using(laws::proofs::Parts::rest, crate::proofs::Entries::least_holds, crate::proofs::Entries::context_good, crate::proofs::Entries::fits_within), unfolding(crate::specs::Entry::entry_size))]
 fn entry_size(t: &[u8], kind: u8) -> usize
     ensures { (result ≡ entry_size kind t.now) × (result ≤ length t.now) }
 {
@@ -232,6 +246,7 @@ fn entry_size(t: &[u8], kind: u8) -> usize
 }
 
 // The walk over so many entries: whether each is well formed, and how many bytes stand behind them. It stops at one that is not.
+#[tactic(auto, using(laws::proofs::Parts::rest, crate::proofs::Walks::stand_end, crate::proofs::Walks::stand_bad, crate::proofs::Walks::stand_step, crate::proofs::Walks::rest_end, crate::proofs::Walks::rest_bad, crate::proofs::Walks::rest_step, crate::proofs::Walks::rest_within))]
 fn walk(body: &[u8], kind: u8, count: u16) -> Walked
     ensures { (result.sound ≡ entries_stand count kind body.now)
         × (result.rest ≡ rest_from count kind body.now) × (result.rest ≤ length body.now) }
@@ -256,6 +271,7 @@ fn walk(body: &[u8], kind: u8, count: u16) -> Walked
 }
 
 // Count entries of that type fill the body exactly.
+#[tactic(auto, using(crate::proofs::Walks::fill_all))]
 fn entries_fill(body: &[u8], kind: u8, count: u16) -> bool
     ensures { result ≡ entries_fill count kind body.now }
 {
@@ -264,6 +280,7 @@ fn entries_fill(body: &[u8], kind: u8, count: u16) -> bool
 }
 
 // The same, with the bytes from entry index on: one walk, up to that entry and then on.
+#[tactic(auto, using(crate::proofs::Walks::fill_found, crate::proofs::Walks::fill_broken, laws::proofs::Parts::rest))]
 fn entries_found(body: &[u8], kind: u8, count: u16, index: u16) -> Walked
     requires { index < count }
     ensures { (result.sound ≡ entries_fill count kind body.now) × (result.rest ≡ rest_from index kind body.now) }
@@ -280,6 +297,7 @@ fn entries_found(body: &[u8], kind: u8, count: u16, index: u16) -> Walked
 }
 
 // R14. The bytes are one entry of that type, 0 to 3, and nothing more.
+#[tactic(auto, using(laws::proofs::Conds::tests), unfolding(crate::specs::Entry::well_formed))]
 pub fn well_formed(kind: u8, e: &[u8]) -> bool
     ensures { result ≡ well_formed kind e.now }
 {
@@ -290,15 +308,18 @@ pub fn well_formed(kind: u8, e: &[u8]) -> bool
 }
 
 // R12. No parameters and no parameter bytes are the same, whatever the type.
+#[tactic(auto, using(crate::proofs::Counts::count_tells))]
 pub fn count_tells()
     ensures { CountTells }
 {}
 
 // R9. A context has at most 64 bytes, and the parameters start behind it.
+#[tactic(auto, using(crate::proofs::Contexts::context_tells))]
 pub fn context_tells()
     ensures { ContextTells }
 {}
 
+#[tactic(auto, using(laws::proofs::Conds::tests), unfolding(crate::specs::Decide::keep_alive_fill))]
 fn keep_alive_fill(body: &[u8]) -> bool
     ensures { result ≡ keep_alive_fill body.now }
 {
@@ -309,6 +330,7 @@ fn keep_alive_fill(body: &[u8]) -> bool
 }
 
 // Whether the data is sound, with the bytes from entry index on: 0 where there is no such entry.
+#[tactic(auto, using(laws::proofs::Conds::tests), unfolding(crate::specs::Decide::data_sound, crate::specs::Scaffold::data_rest))]
 fn data_sound(kind: u8, count: u16, body: &[u8], index: usize) -> Walked
     ensures { (result.sound ≡ data_sound kind count body.now) × (result.rest ≡ data_rest kind count body.now index) }
 {
@@ -335,6 +357,7 @@ fn unfound(decision: Decision) -> Found
 }
 
 // m is a whole message with a sound header.
+#[tactic(auto, using(laws::proofs::Parts::rest, crate::proofs::Walks::rest_sound, crate::proofs::Walks::rest_faulty), unfolding(crate::specs::Decide::decide_data, crate::specs::Scaffold::message_rest))]
 fn decide_data(m: &[u8], index: usize) -> Found
     requires { 10 ≤ length m.now }
     ensures { Finds (decide_data m.now) m.now index result }
@@ -355,6 +378,7 @@ fn decide_data(m: &[u8], index: usize) -> Found
 }
 
 // s has a whole header.
+#[tactic(auto, using(crate::proofs::Headers::sound_header, crate::proofs::Walks::rest_front), unfolding(crate::specs::Scaffold::rest_by, crate::specs::Decide::decide_header))]
 fn decide_header(s: &[u8], index: usize) -> Found
     requires { 10 ≤ length s.now }
     ensures { Finds (decide_header (header_fault s.now) s.now) s.now index result }
@@ -371,6 +395,7 @@ fn decide_header(s: &[u8], index: usize) -> Found
 }
 
 // A header stands at the front of s.
+#[tactic(auto, using(laws::proofs::Conds::tests), unfolding(crate::specs::Scaffold::has_header))]
 fn has_header(s: &[u8]) -> bool
     ensures { result ≡ has_header s.now }
 {
@@ -381,6 +406,7 @@ fn has_header(s: &[u8]) -> bool
 }
 
 // What is decided where there is no header: a wrong first byte, or nothing yet.
+#[tactic(auto, using(crate::proofs::Ways::unheaded), unfolding(crate::specs::Decide::decide))]
 fn decide_start(s: &[u8]) -> Decision
     requires { has_header s.now ≡ false }
     ensures { result ≡ decide s.now }
@@ -395,6 +421,7 @@ fn decide_start(s: &[u8]) -> Decision
 }
 
 // What the bytes at the front of s decide.
+#[tactic(auto, using(crate::proofs::Ways::headed))]
 pub fn decide(s: &[u8]) -> Decision
     ensures { result ≡ decide s.now }
 {
@@ -405,6 +432,7 @@ pub fn decide(s: &[u8]) -> Decision
 }
 
 // The same, and where entry index stands: it is found by the walk that decides.
+#[tactic(auto, using(crate::proofs::Ways::headed, crate::proofs::Ways::unheaded_rest))]
 pub fn find(s: &[u8], index: usize) -> Found
     ensures { Finds (decide s.now) s.now index result }
 {
@@ -415,6 +443,7 @@ pub fn find(s: &[u8], index: usize) -> Found
 }
 
 // The laws of the deciding byte that a stream of messages needs.
+#[tactic(auto, using(crate::proofs::Ways::deciding))]
 pub fn deciding()
     ensures { Deciding }
 {}

@@ -1,4 +1,6 @@
 // A message's bytes in a buffer: the 3B and the header, and a keep-alive whole.
+#![tactic(auto)]
+
 ghost use Rattle.std.specs.Prelude.{◌≡◌, ◌≤◌, length};
 ghost use Rattle.std.proofs.lemmas.List.Edits.{sets};
 ghost use Rattle.octets.specs.Numbers.{bytes16, bytes32};
@@ -6,6 +8,7 @@ ghost use Rattle.frame.specs.Limits.{header_end, keep_alive};
 ghost use Rattle.layout.specs.Message.{head_bytes, message, at_front};
 
 // The 3B and the header.
+#[tactic(auto, using(crate::proofs::Messages::head_stores))]
 pub fn put_head(buf: &mut [u8], kind: u8, count: u16, size: u32)
     requires { header_end ≤ length buf.old }
     ensures { buf.new ≡ sets buf.old 0 (head_bytes kind count size) }
@@ -18,6 +21,7 @@ pub fn put_head(buf: &mut [u8], kind: u8, count: u16, size: u32)
 }
 
 // The keep-alive that carries these seconds.
+#[tactic(auto, using(octets::proofs::Digits::length_bytes16, crate::proofs::Messages::put_whole))]
 pub fn put_seconds(buf: &mut [u8], beat: heartbeat::Seconds)
     requires { 12 ≤ length buf.old }
     ensures { buf.new ≡ at_front (message keep_alive 1 (bytes16 beat.0)) buf.old }
@@ -32,6 +36,7 @@ pub fn put_seconds(buf: &mut [u8], beat: heartbeat::Seconds)
 }
 
 // The keep-alive that carries these milliseconds.
+#[tactic(auto, using(octets::proofs::Digits::length_bytes32, crate::proofs::Messages::put_whole))]
 pub fn put_milliseconds(buf: &mut [u8], beat: heartbeat::Milliseconds)
     requires { 14 ≤ length buf.old }
     ensures { buf.new ≡ at_front (message keep_alive 1 (bytes32 beat.0)) buf.old }

@@ -1,4 +1,6 @@
 // The lines of the listing, put into an output buffer.
+#![tactic(auto)]
+
 ghost use Rattle.std.specs.Prelude.{◌≡◌, cond, ◌++◌, ◌+◌, ◌≤◌, eqb, length};
 ghost use Rattle.lines.specs.Text.{space, newline, number_text, message_line, stop_line, part_line, end_line};
 ghost use Rattle.lines.specs.Scaffold.{line_room, Puts, PutsLine};
@@ -12,6 +14,7 @@ fn put_bytes(out: &mut [u8], at: usize, s: &[u8]) -> usize
     at + s.len()
 }
 
+#[tactic(auto, using(crate::proofs::Putting::puts_then, crate::proofs::Putting::puts_one, crate::proofs::Putting::puts_length, crate::proofs::Decimals::decimal_digits, crate::proofs::Decimals::number_length), unfolding(crate::specs::Text::number_text))]
 fn put_number(out: &mut [u8], at: usize, n: u64, mark: u8) -> usize
     requires { at + length (number_text n mark) ≤ length out.old }
     ensures { Puts (number_text n mark) out.old at out.new result }
@@ -23,6 +26,7 @@ fn put_number(out: &mut [u8], at: usize, n: u64, mark: u8) -> usize
     end + 1
 }
 
+#[tactic(auto, using(crate::proofs::Putting::puts_then, crate::proofs::Putting::puts_length, crate::proofs::Decimals::short64, crate::proofs::Decimals::short16, crate::proofs::Decimals::short8), unfolding(crate::specs::Text::message_line))]
 pub fn put_message(out: &mut [u8], at: usize, offset: u64, kind: u8, count: u16, size: u16) -> usize
     requires { at + line_room ≤ length out.old }
     ensures { PutsLine (message_line offset kind count size) out.old at out.new result }
@@ -34,6 +38,7 @@ pub fn put_message(out: &mut [u8], at: usize, offset: u64, kind: u8, count: u16,
 }
 
 // The offset, a word and a number.
+#[tactic(auto, using(crate::proofs::Putting::puts_then, crate::proofs::Putting::puts_length, crate::proofs::Decimals::short64, crate::proofs::Decimals::short16))]
 fn put_word(out: &mut [u8], at: usize, offset: u64, word: &[u8], n: u16) -> usize
     requires { (at + line_room ≤ length out.old) × (length word.now ≡ 5) }
     ensures { PutsLine (number_text offset space ++ (word.now ++ number_text n newline)) out.old at out.new result }
@@ -43,6 +48,7 @@ fn put_word(out: &mut [u8], at: usize, offset: u64, word: &[u8], n: u16) -> usiz
     put_number(out, b, n as u64, b'\n')
 }
 
+#[tactic(auto, unfolding(crate::specs::Text::stop_line))]
 pub fn put_stop(out: &mut [u8], at: usize, offset: u64, fault: u8) -> usize
     requires { at + line_room ≤ length out.old }
     ensures { PutsLine (stop_line offset fault) out.old at out.new result }
@@ -51,6 +57,7 @@ pub fn put_stop(out: &mut [u8], at: usize, offset: u64, fault: u8) -> usize
 }
 
 // The input ended with left bytes that decide nothing.
+#[tactic(auto, using(crate::proofs::Putting::puts_then, crate::proofs::Putting::puts_length, crate::proofs::Decimals::short64), unfolding(crate::specs::Text::end_line, crate::specs::Text::part_line))]
 pub fn put_end(out: &mut [u8], at: usize, offset: u64, left: u16) -> usize
     requires { at + line_room ≤ length out.old }
     ensures { PutsLine (cond (eqb left 0) (end_line offset) (part_line offset left)) out.old at out.new result }

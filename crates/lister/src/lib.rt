@@ -1,4 +1,6 @@
 // The listing of some bytes: a line for each message, and a last line that says how it ended.
+#![tactic(auto)]
+
 ghost use Rattle.std.specs.Prelude.{◌≡◌, ◌++◌, ◌+◌, ◌*◌, ◌^◌, ◌≤◌, ◌<◌, length, take, drop, get_or};
 ghost use Rattle.frame.specs.Limits.{greatest_size};
 ghost use Rattle.frame.specs.Decide.{decide};
@@ -30,6 +32,7 @@ pub struct Piece {
     pub over: bool,
 }
 
+#[tactic(auto, unfolding(reader::specs::Numbers::message_numbers))]
 fn kind_of(m: Message) -> u8
     ensures { result ≡ get_or (message_numbers m) 0 0 }
 {
@@ -42,6 +45,7 @@ fn kind_of(m: Message) -> u8
     }
 }
 
+#[tactic(auto, unfolding(reader::specs::Numbers::message_numbers))]
 fn count_of(m: Message) -> u16
     ensures { result ≡ get_or (message_numbers m) 1 0 }
 {
@@ -55,6 +59,7 @@ fn count_of(m: Message) -> u16
 }
 
 // Lists the message at the front of s, if it is sound.
+#[tactic(auto, using(crate::proofs::Readings::read_size, crate::proofs::Walks::first_listed, crate::proofs::Walks::first_fault, crate::proofs::Walks::first_short))]
 fn list_first(s: &[u8], offset: u64, out: &mut [u8], at: usize) -> Listed
     requires { at + line_room ≤ length out.old }
     ensures { Lists (first_of s.now) s.now offset out.old at out.new result
@@ -80,6 +85,7 @@ fn list_first(s: &[u8], offset: u64, out: &mut [u8], at: usize) -> Listed
 }
 
 // Lists the sound messages at the front of s.
+#[tactic(auto, using(laws::proofs::Parts::rest, lines::proofs::Putting::puts_length, crate::proofs::Walks::walked_none, crate::proofs::Walks::walked_more, crate::proofs::Walks::walked_stop, crate::proofs::Walks::walked_all, crate::proofs::Walks::nothing_unsound, crate::proofs::Walks::nothing_fault))]
 fn list_messages(s: &[u8], offset: u64, out: &mut [u8]) -> Listed
     requires { (4 * length s.now + line_room ≤ length out.old) × (offset + length s.now < 2 ^ 64) }
     ensures { Lists (sound_messages s.now) s.now offset out.old 0 out.new result
@@ -107,6 +113,7 @@ fn list_messages(s: &[u8], offset: u64, out: &mut [u8]) -> Listed
 }
 
 // A fault stops the listing wherever it stands; without one, which 0 says, only the input's end does.
+#[tactic(auto, unfolding(crate::specs::Pieces::over_by, crate::specs::Scaffold::stopped_by))]
 fn is_over(fault: u8, end: bool) -> bool
     ensures { result ≡ over_by end (stopped_by fault) }
 {
@@ -117,6 +124,7 @@ fn is_over(fault: u8, end: bool) -> bool
 }
 
 // Bytes left without a fault are undecided, and so few enough for 16 bits.
+#[tactic(auto, unfolding(crate::specs::Listing::last_by, crate::specs::Scaffold::stopped_by))]
 fn put_last(fault: u8, left: usize, offset: u64, out: &mut [u8], at: usize) -> usize
     requires { (at + line_room ≤ length out.old) × (fault ≡ 0 → left ≤ greatest_size) }
     ensures { PutsLine (last_by (stopped_by fault) offset left) out.old at out.new result }
@@ -128,6 +136,7 @@ fn put_last(fault: u8, left: usize, offset: u64, out: &mut [u8], at: usize) -> u
 }
 
 // Lists the bytes s, which stand from the offset on. end says that the input ends with them.
+#[tactic(auto, using(crate::proofs::Ends::left_short, crate::proofs::Ends::piece_over, crate::proofs::Ends::piece_on))]
 pub fn list_piece(s: &[u8], offset: u64, out: &mut [u8], end: bool) -> Piece
     requires { (4 * length s.now + line_room ≤ length out.old) × (offset + length s.now < 2 ^ 64) }
     ensures { ListsPiece end offset s.now out.old out.new result }
@@ -155,6 +164,7 @@ pub fn list_piece(s: &[u8], offset: u64, out: &mut [u8], end: bool) -> Piece
 }
 
 // Moves n bytes from a place on to the front.
+#[tactic(auto, using(crate::proofs::Moves::moved, crate::proofs::Moves::moved_length, crate::proofs::Moves::moved_more))]
 pub fn move_down(buf: &mut [u8], from: usize, n: usize)
     requires { from + n ≤ length buf.old }
     ensures { buf.new ≡ take n (drop from buf.old) ++ drop n buf.old }
@@ -167,6 +177,7 @@ pub fn move_down(buf: &mut [u8], from: usize, n: usize)
 }
 
 // The laws by which input that comes in pieces is listed as the whole.
+#[tactic(auto, using(crate::proofs::Cuts::pieces_laws))]
 pub fn pieces()
     ensures { Pieces }
 {}

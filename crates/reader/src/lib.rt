@@ -1,4 +1,6 @@
 // The reader of whole messages: the message at the front of some bytes, its entries, and each entry's part.
+#![tactic(auto)]
+
 ghost use Rattle.std.specs.Prelude.{◌≡◌, [], ◌∷◌, cond, ◌+◌, ◌≤◌, length, eqb};
 ghost use Rattle.frame.specs.Limits.{notification};
 ghost use Rattle.frame.specs.Places.{context_place};
@@ -17,7 +19,7 @@ use frame::{Decision, places};
 use heartbeat::Heartbeat;
 
 // A sound message: its messageCount, or a keep-alive's heartbeat.
-#[derive(Drop)]
+#[derive(Clone, Copy)]
 pub enum Message {
     Command(u16),
     CommandWantingReply(u16),
@@ -68,6 +70,7 @@ impl Part {
     };
 }
 
+#[tactic(auto, unfolding(crate::specs::Numbers::message_numbers))]
 fn message_of(kind: u8, count: u16) -> Message
     requires { kind ≤ 3 }
     ensures { message_numbers result ≡ kind ∷ count ∷ [] }
@@ -81,6 +84,7 @@ fn message_of(kind: u8, count: u16) -> Message
 }
 
 // The sound message of n bytes at the front of s.
+#[tactic(auto, using(laws::proofs::Parts::drop_take, crate::proofs::Sounds::kind_low, crate::proofs::Sounds::keep_data), unfolding(crate::specs::Numbers::message_numbers, crate::specs::Read::message_of))]
 fn message_in(s: &[u8], n: usize) -> Message
     requires { SoundAt s.now n }
     ensures { message_numbers result ≡ message_of s.now n }
@@ -92,6 +96,7 @@ fn message_in(s: &[u8], n: usize) -> Message
 }
 
 // The message at the front of s.
+#[tactic(auto, using(frame::proofs::Sounds::sound_at), unfolding(crate::specs::Read::read_by, crate::specs::Numbers::reading_numbers, crate::specs::Read::read_of))]
 pub fn read_message(s: &[u8]) -> Reading
     ensures { ReadsMessage s.now result }
 {
@@ -102,6 +107,7 @@ pub fn read_message(s: &[u8]) -> Reading
     }
 }
 
+#[tactic(auto, using(frame::proofs::Entries::least_command_lem, frame::proofs::Entries::least_response_lem, frame::proofs::Entries::offset_low), unfolding(crate::specs::Numbers::entry_numbers, crate::specs::Entry::fields_of))]
 fn fields_of(kind: u8, e: &[u8]) -> Entry
     requires { parameter_offset kind e.now ≤ length e.now }
     ensures { entry_numbers result ≡ fields_of kind e.now }
@@ -116,6 +122,7 @@ fn fields_of(kind: u8, e: &[u8]) -> Entry
 }
 
 // The entry from whose first byte on `rest` of the message's n bytes stand: none where that is 0.
+#[tactic(auto, using(laws::proofs::Parts::rest), unfolding(crate::specs::Scaffold::place_at))]
 fn place_in(s: &[u8], n: usize, rest: usize) -> Place
     requires { RestStands s.now n rest }
     ensures { result ≡ place_at s.now n rest }
@@ -128,6 +135,7 @@ fn place_in(s: &[u8], n: usize, rest: usize) -> Place
 }
 
 // Where entry index of the message at the front of s stands: found by the walk that decides the message, for every call below.
+#[tactic(auto, using(frame::proofs::Sounds::sound_at, crate::proofs::Places::rest_stands), unfolding(crate::specs::Scaffold::place_by, crate::specs::Scaffold::entry_place))]
 fn place_of(s: &[u8], index: usize) -> Place
     ensures { result ≡ entry_place s.now index }
 {
@@ -141,6 +149,7 @@ fn place_of(s: &[u8], index: usize) -> Place
 }
 
 // Entry index of the message at the front of s.
+#[tactic(auto, using(crate::proofs::Places::placing, crate::proofs::Places::at_long), unfolding(crate::specs::Numbers::entry_numbers, crate::specs::Scaffold::entry_placed))]
 pub fn read_entry(s: &[u8], index: usize) -> Entry
     ensures { ReadsEntry s.now index result }
 {
@@ -153,6 +162,7 @@ pub fn read_entry(s: &[u8], index: usize) -> Entry
 }
 
 // R21, R22. Where the parameters of entry index stand in s.
+#[tactic(auto, using(crate::proofs::Places::placing, crate::proofs::Places::at_least), unfolding(crate::specs::Scaffold::start_placed, crate::specs::Scaffold::length_placed))]
 pub fn part_place(s: &[u8], index: usize) -> Part
     ensures { PlacesPart s.now index result }
 {
@@ -171,6 +181,7 @@ pub fn part_place(s: &[u8], index: usize) -> Part
 }
 
 // R21. The parameters of entry index, as a slice of s; empty where it is refused.
+#[tactic(auto, using(crate::proofs::Starts::part_stands))]
 pub fn entry_part<'a>(s: &'a [u8], index: usize) -> &'a [u8]
     ensures { GivesPart s.now index result.now }
 {
@@ -188,11 +199,13 @@ pub fn part_start(s: &[u8], index: usize) -> usize
 }
 
 // The bytes from there on, as many as the part has, are the part.
+#[tactic(auto, using(crate::proofs::Starts::part_stands))]
 pub fn part_stands()
     ensures { PartStands }
 {}
 
 // The context of an entry of that type, whose first byte stands at `from`.
+#[tactic(auto, unfolding(frame::specs::Entry::context_count))]
 fn context_at(kind: u8, from: usize, e: &[u8]) -> Part
     requires { (least_entry kind ≤ length e.now) × (from ≤ 2049) }
     ensures { (result.start ≡ cond (eqb kind notification) (from + context_place) 0)
@@ -208,6 +221,7 @@ fn context_at(kind: u8, from: usize, e: &[u8]) -> Part
 }
 
 // R21, R22. Where the context of entry index stands in s: a notification's alone has one.
+#[tactic(auto, using(crate::proofs::Places::placing, crate::proofs::Places::at_least), unfolding(crate::specs::Scaffold::context_start_placed, crate::specs::Scaffold::context_length_placed))]
 pub fn context_place(s: &[u8], index: usize) -> Part
     ensures { PlacesContext s.now index result }
 {
@@ -220,6 +234,7 @@ pub fn context_place(s: &[u8], index: usize) -> Part
 }
 
 // R21. The context of entry index, as a slice of s; empty where it is refused or has none.
+#[tactic(auto, using(crate::proofs::Starts::context_stands))]
 pub fn entry_context<'a>(s: &'a [u8], index: usize) -> &'a [u8]
     ensures { GivesContext s.now index result.now }
 {
@@ -230,11 +245,13 @@ pub fn entry_context<'a>(s: &'a [u8], index: usize) -> &'a [u8]
 }
 
 // The bytes from its start on, as many as the context has, are the context.
+#[tactic(auto, using(crate::proofs::Starts::context_stands))]
 pub fn context_stands()
     ensures { ContextStands }
 {}
 
 // The numbers of an answer tell it from every other, and each promise allows one answer.
+#[tactic(auto, using(crate::proofs::Tells::numbers_tell))]
 pub fn numbers_tell()
     ensures { NumbersTell }
 {}

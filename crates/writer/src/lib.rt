@@ -1,4 +1,6 @@
 // The writer of whole messages: start with one entry, append an entry, write a keep-alive.
+#![tactic(auto)]
+
 ghost use Rattle.std.specs.Prelude.{◌≡◌, ◌++◌, ◌+◌, ◌<◌, ◌≤◌, length};
 ghost use Rattle.frame.specs.Limits.{header_end, greatest_size};
 ghost use Rattle.frame.specs.Header.{message_count};
@@ -27,6 +29,7 @@ pub enum Written {
 }
 
 // The message of one entry.
+#[tactic(auto, using(layout::proofs::Messages::put_whole))]
 fn put_message(buf: &mut [u8], kind: u8, e: &[u8])
     requires { (size_of e.now ≤ greatest_size) × (least_room ≤ length buf.old) }
     ensures { buf.new ≡ at_front (message kind 1 e.now) buf.old }
@@ -36,6 +39,7 @@ fn put_message(buf: &mut [u8], kind: u8, e: &[u8])
 }
 
 // R25. A message of one entry.
+#[tactic(auto, using(crate::proofs::Outcomes::start_no_room, crate::proofs::Outcomes::start_bad, crate::proofs::Outcomes::start_long, crate::proofs::Outcomes::start_done))]
 pub fn start(buf: &mut [u8], kind: u8, e: &[u8]) -> Written
     ensures { Starts buf.old kind e.now result buf.new }
 {
@@ -54,6 +58,7 @@ pub fn start(buf: &mut [u8], kind: u8, e: &[u8]) -> Written
 }
 
 // The message of n bytes, with one entry more: only its header and the bytes behind it are written.
+#[tactic(auto, using(laws::proofs::Parts::rest, crate::proofs::Messages::put_behind))]
 fn put_more(buf: &mut [u8], n: usize, kind: u8, e: &[u8])
     requires { (header_end ≤ n) × (n + length e.now ≤ least_room) × (least_room ≤ length buf.old) × (message_count buf.old < 65535) }
     ensures { buf.new
@@ -66,6 +71,7 @@ fn put_more(buf: &mut [u8], n: usize, kind: u8, e: &[u8])
     octets::copy(e, buf, n);
 }
 
+#[tactic(auto, using(laws::proofs::Conds::and_left, frame::proofs::Entries::well_kind, crate::proofs::Outcomes::sound_bounds, crate::proofs::Outcomes::sound_few, crate::proofs::Outcomes::append_other, crate::proofs::Outcomes::append_bad, crate::proofs::Outcomes::append_long, crate::proofs::Outcomes::append_done))]
 fn append_sound(buf: &mut [u8], n: usize, kind: u8, e: &[u8]) -> Written
     requires { (least_room ≤ length buf.old) × (decide buf.old ≡ Sound n) }
     ensures { writing result buf.new ≡ append_sound n buf.old kind e.now }
@@ -86,6 +92,7 @@ fn append_sound(buf: &mut [u8], n: usize, kind: u8, e: &[u8]) -> Written
 }
 
 // Appends an entry to the sound message at the buffer's front.
+#[tactic(auto, using(laws::proofs::Parts::rest, crate::proofs::Outcomes::append_no_room, crate::proofs::Outcomes::append_undecided, crate::proofs::Outcomes::append_fault, crate::proofs::Outcomes::append_sound_lem))]
 pub fn append(buf: &mut [u8], kind: u8, e: &[u8]) -> Written
     ensures { Appends buf.old kind e.now result buf.new }
 {
@@ -101,6 +108,7 @@ pub fn append(buf: &mut [u8], kind: u8, e: &[u8]) -> Written
 }
 
 // R27. A keep-alive of that form, with a value in its unit.
+#[tactic(auto, using(crate::proofs::Outcomes::beat_no_room, crate::proofs::Outcomes::no_form, crate::proofs::Outcomes::no_seconds, crate::proofs::Outcomes::in_seconds, crate::proofs::Outcomes::in_milliseconds))]
 pub fn keep_alive(buf: &mut [u8], form: u8, value: u32) -> Written
     ensures { WritesKeepAlive buf.old form value result buf.new }
 {
@@ -122,11 +130,13 @@ pub fn keep_alive(buf: &mut [u8], form: u8, value: u32) -> Written
 }
 
 // What start, append and keep_alive write is read as it was given.
+#[tactic(auto, using(crate::proofs::Results::read_after_write))]
 pub fn read_after_write()
     ensures { ReadAfterWrite }
 {}
 
 // Two results that a promise of the writer allows are equal.
+#[tactic(auto, using(crate::proofs::Results::one_results))]
 pub fn one_result()
     ensures { OneResult }
 {}
