@@ -23,6 +23,7 @@ pub struct Acted {
 }
 
 // What 1.1 and 1.2, which every object has, tell: it needs no device.
+#[tactic(auto, using(device::proofs::Commands::told_class, device::proofs::Commands::told_lockable, device::proofs::Commands::told_not_lockable))]
 fn told(target: u32, m: u32) -> Answer
     requires { is_telling m ≡ true }
     ensures { (d : Device) → result ≡ answer_of d target m }
@@ -48,6 +49,7 @@ impl Channels {
     }
 
     // Whichever connection asks.
+    #[tactic(auto, using(crate::proofs::Acts::got))]
     pub fn get(self, at: usize) -> Acted
         requires { at < 8 }
         ensures { (n : ℕ) → Acts self n (first_mute + at) get_method 0 [] result }
@@ -57,6 +59,7 @@ impl Channels {
         self.same(Answer::byte(v))
     }
 
+    #[tactic(auto, using(crate::proofs::Acts::lock_refused, crate::proofs::Acts::locked))]
     pub fn lock(mut self, n: u8, at: usize) -> Acted
         requires { at < 8 }
         ensures { Acts self n (first_mute + at) lock_method 0 [] result }
@@ -69,6 +72,7 @@ impl Channels {
         self.same(Answer::done())
     }
 
+    #[tactic(auto, using(crate::proofs::Acts::unlock_refused, crate::proofs::Acts::unlock_early, crate::proofs::Acts::unlocked))]
     pub fn unlock(mut self, n: u8, at: usize) -> Acted
         requires { at < 8 }
         ensures { Acts self n (first_mute + at) unlock_method 0 [] result }
@@ -85,6 +89,7 @@ impl Channels {
     }
 
     // A value that stays marks nothing.
+    #[tactic(auto, using(crate::proofs::Acts::set_refused, crate::proofs::Acts::set_strange, crate::proofs::Acts::set_stays, crate::proofs::Acts::set_done))]
     pub fn set(mut self, n: u8, at: usize, v: u8) -> Acted
         requires { at < 8 }
         ensures { Acts self n (first_mute + at) set_method 1 (v ∷ []) result }
@@ -109,6 +114,7 @@ impl Channels {
     }
 
     // A command that is no add, no remove and no 3.14; `part` is the message from the entry's parameters on.
+    #[tactic(auto, using(crate::proofs::Acts::act_stopped, crate::proofs::Acts::act_tell, crate::proofs::Acts::act_mute, crate::proofs::Acts::act_lock, crate::proofs::Acts::act_unlock, crate::proofs::Acts::act_get, crate::proofs::Acts::act_set, crate::proofs::Acts::act_size, device::proofs::Shapes::is_told_lem))]
     pub fn act(self, n: u8, target: u32, m: u32, count: u8, part: &[u8]) -> Acted
         requires { (m ≡ add_method → ⊥) × (m ≡ remove_method → ⊥) × (m ≡ reset_key_method → ⊥) }
         ensures { Acts self n target m count part.now result }

@@ -1,4 +1,6 @@
 // The commands: each takes the part of the device that it concerns, and hands it back with the answer.
+#![tactic(auto)]
+
 ghost use Rattle.command.specs.Booking.{Arms};
 
 use mechanism::Mechanism;
@@ -14,6 +16,7 @@ pub struct Armed {
 }
 
 // 3.14, whichever connection it is: the mechanism is the device's.
+#[tactic(auto, using(crate::proofs::Books::arm_stopped, crate::proofs::Books::arm_fitting, crate::proofs::Books::arm_untaken, crate::proofs::Books::arm_taken))]
 pub fn arm(mechanism: Mechanism, target: u32, count: u8, part: &[u8]) -> Armed
     ensures { Arms mechanism target count part.now result }
 {

@@ -30,6 +30,7 @@ fn chosen(first: bool, a: usize, b: usize) -> usize
 }
 
 // The entry of the same subscription, else the lowest free one, else none: one walk for both, from the last entry down.
+#[tactic(auto, using(crate::proofs::Books::seeking_none, crate::proofs::Books::seeking_more, crate::proofs::Books::seeking_found, crate::proofs::Books::seeking_missed), unfolding(octets::specs::Zeros::zeros))]
 pub fn slot_for(entries: [Subscription; 32], wanted: Subscription) -> Slot
     ensures { result ≡ slot_for entries wanted }
 {
@@ -60,6 +61,7 @@ impl Slot {
         Booked { slot: self, answer }
     }
 
+    #[tactic(auto, using(crate::proofs::Books::subscribe_strange, crate::proofs::Books::held_fits, crate::proofs::Books::subscribe_bad, crate::proofs::Books::subscribe_twin, crate::proofs::Books::subscribe_full, crate::proofs::Books::subscribe_done, device::proofs::Shapes::add_size))]
     pub fn subscribe(mut self, wanted: Subscription, part: &[u8]) -> Booked
         requires { is_malformed add_method 5 part.now ≡ false }
         ensures { Subscribes self wanted part.now result }
@@ -82,6 +84,7 @@ impl Slot {
         self.same(Answer::done())
     }
 
+    #[tactic(auto, using(crate::proofs::Books::unsubscribe_strange, crate::proofs::Books::unsubscribe_none, crate::proofs::Books::unsubscribe_done, device::proofs::Shapes::remove_size), unfolding(octets::specs::Zeros::zeros))]
     pub fn unsubscribe(mut self, part: &[u8]) -> Booked
         requires { is_malformed remove_method 2 part.now ≡ false }
         ensures { Unsubscribes self part.now result }
@@ -100,6 +103,7 @@ impl Slot {
 }
 
 // An add or a remove.
+#[tactic(auto, using(crate::proofs::Books::book_stopped, crate::proofs::Books::book_add, crate::proofs::Books::book_remove, crate::proofs::Books::added_formed, crate::proofs::Books::removed_formed, crate::proofs::Books::booked_long), unfolding(octets::specs::Zeros::zeros))]
 pub fn book(
     entries: [Subscription; 32],
     n: u8,

@@ -1,4 +1,6 @@
 // A connection of the device: open or closed, its heartbeat, and what is counted while it is supervised.
+#![tactic(auto)]
+
 ghost use Rattle.std.specs.Prelude.{◌≡◌, true, map, ◌+◌, ◌^◌, ◌<◌, ◌≤◌};
 ghost use Rattle.laws.specs.Lists.{all, mask};
 ghost use Rattle.connection.specs.State.{live_at, lowest_free, lowest_due};
@@ -17,7 +19,7 @@ pub const TOP_SECONDS: u64 = heartbeat::GREATEST_SECONDS as u64 * 1000;
 pub const TOP_MILLISECONDS: u64 = heartbeat::GREATEST_MILLISECONDS as u64;
 
 #[repr(C)]
-#[derive(Drop)]
+#[derive(Clone, Copy)]
 pub struct Connection {
     pub live: bool,
     pub form: u8,
@@ -46,6 +48,7 @@ impl Connection {
         due: false,
     };
 
+    #[tactic(auto, unfolding(crate::specs::Obeys::is_closed))]
     fn is_closed(self) -> bool
         ensures { result ≡ is_closed self }
     {
@@ -57,12 +60,14 @@ impl Connection {
             & !self.due
     }
 
+    #[tactic(auto, unfolding(crate::specs::Obeys::is_idle))]
     fn is_idle(self) -> bool
         ensures { result ≡ is_idle self }
     {
         (self.beat == 0) & (self.silence == 0) & (self.quiet == 0) & (self.form == 0) & !self.due
     }
 
+    #[tactic(auto, unfolding(crate::specs::Obeys::form_obeys))]
     fn form_obeys(self) -> bool
         ensures { result ≡ form_obeys self }
     {
@@ -73,6 +78,7 @@ impl Connection {
     }
 
     // A third of silence is compared, since 3 x H might not fit.
+    #[tactic(auto, using(crate::proofs::Keeps::timed_tested))]
     fn is_timed(self) -> bool
         ensures { result ≡ is_timed self }
     {
@@ -84,6 +90,7 @@ impl Connection {
             & form
     }
 
+    #[tactic(auto, using(crate::proofs::Times::obeys_shut, crate::proofs::Times::obeys_timed, crate::proofs::Times::obeys_idle))]
     pub fn obeys(self) -> bool
         ensures { result ≡ connection_obeys self }
     {
@@ -97,6 +104,7 @@ impl Connection {
     }
 
     // No test that the sum fits: the rules leave silence far below 64 bits.
+    #[tactic(auto, using(crate::proofs::Times::third_late, crate::proofs::Keeps::silence_fits), unfolding(crate::specs::Supervision::closes_at))]
     pub fn closes(self, step: u32) -> bool
         requires { (connection_obeys self ≡ true) × (step < 2 ^ 31) }
         ensures { result ≡ closes_at step self }
@@ -105,6 +113,7 @@ impl Connection {
         !(self.beat == 0) & (self.beat <= silence / 3)
     }
 
+    #[tactic(auto, using(crate::proofs::Times::quiet_due, crate::proofs::Times::quiet_falls_due, crate::proofs::Times::quiet_more))]
     fn quieter(mut self, step: u32) -> Connection
         requires { self.quiet + step ≤ greatest_quiet }
         ensures { result ≡ quiet_after step self }
@@ -122,6 +131,7 @@ impl Connection {
         self
     }
 
+    #[tactic(auto, using(crate::proofs::Times::tick_zero, crate::proofs::Times::tick_closed, crate::proofs::Times::tick_stays, crate::proofs::Keeps::silence_fits, crate::proofs::Keeps::quiet_fits))]
     pub fn ticked(mut self, step: u32) -> Connection
         requires { (connection_obeys self ≡ true) × (step < 2 ^ 31) }
         ensures { result ≡ connection_ticked step self }
@@ -136,6 +146,7 @@ impl Connection {
         self.quieter(step)
     }
 
+    #[tactic(auto, unfolding(crate::specs::Supervision::heard_of))]
     pub fn heard(mut self) -> Connection
         ensures { result ≡ heard_of self }
     {
@@ -143,6 +154,7 @@ impl Connection {
         self
     }
 
+    #[tactic(auto, unfolding(crate::specs::Supervision::sent_of))]
     pub fn sent(mut self) -> Connection
         ensures { result ≡ sent_of self }
     {
@@ -152,6 +164,7 @@ impl Connection {
     }
 
     // Zero stops supervision.
+    #[tactic(auto, using(crate::proofs::Times::beat_none, crate::proofs::Times::beat_some))]
     fn beat_set(mut self, h: Heartbeat) -> Connection
         ensures { result ≡ set_beat h self }
     {
@@ -167,6 +180,7 @@ impl Connection {
     }
 
     // A keep-alive received and answered.
+    #[tactic(auto, unfolding(crate::specs::Supervision::beating_of))]
     pub fn beating(self, h: Heartbeat) -> Connection
         ensures { result ≡ beating_of h self }
     {
@@ -174,6 +188,7 @@ impl Connection {
     }
 
     // What a due keep-alive carries.
+    #[tactic(auto, using(crate::proofs::Times::told_seconds, laws::proofs::Conds::tests, crate::proofs::Times::beat_fits_lem, crate::proofs::Times::seconds_fit), unfolding(crate::specs::Supervision::heartbeat_kept))]
     pub fn heartbeat(self) -> Heartbeat
         requires { connection_obeys self ≡ true }
         ensures { result ≡ heartbeat_kept self }
@@ -186,6 +201,7 @@ impl Connection {
     }
 }
 
+#[tactic(auto, using(crate::proofs::Times::live_out, crate::proofs::Times::live_in))]
 pub fn live_at(connections: [Connection; 8], n: u8) -> bool
     ensures { result ≡ live_at connections n }
 {
@@ -198,6 +214,7 @@ pub fn live_at(connections: [Connection; 8], n: u8) -> bool
 }
 
 // The lowest free number, or 8.
+#[tactic(auto, using(crate::proofs::Times::free_is, laws::proofs::Loops::searching_none, laws::proofs::Loops::searching_more, laws::proofs::Loops::searching_here, laws::proofs::Loops::searching_end))]
 pub fn lowest_free(connections: [Connection; 8]) -> usize
     ensures { result ≡ lowest_free connections }
 {
@@ -213,6 +230,7 @@ pub fn lowest_free(connections: [Connection; 8]) -> usize
 }
 
 // The lowest connection due, or 8.
+#[tactic(auto, using(crate::proofs::Times::due_is, laws::proofs::Loops::searching_none, laws::proofs::Loops::searching_more, laws::proofs::Loops::searching_here, laws::proofs::Loops::searching_end))]
 pub fn lowest_due(connections: [Connection; 8]) -> usize
     ensures { result ≡ lowest_due connections }
 {
@@ -227,6 +245,7 @@ pub fn lowest_due(connections: [Connection; 8]) -> usize
     i
 }
 
+#[tactic(auto, using(laws::proofs::Loops::testing_none, laws::proofs::Loops::testing_more, laws::proofs::Loops::testing_not, laws::proofs::Loops::testing_end))]
 pub fn all_obey(connections: [Connection; 8]) -> bool
     ensures { result ≡ all connection_obeys connections }
 {
@@ -242,6 +261,7 @@ pub fn all_obey(connections: [Connection; 8]) -> bool
 }
 
 // Bit n is set where the tick closes connection n.
+#[tactic(auto, using(laws::proofs::Loops::masking_none, laws::proofs::Loops::masking_set, laws::proofs::Loops::masking_clear, laws::proofs::Loops::masking_low, laws::proofs::Loops::masking_all, crate::proofs::Times::obeys_before))]
 pub fn closing(connections: [Connection; 8], step: u32) -> u8
     requires { (all connection_obeys connections ≡ true) × (step < 2 ^ 31) }
     ensures { result ≡ mask (closes_at step) connections }
@@ -260,6 +280,7 @@ pub fn closing(connections: [Connection; 8], step: u32) -> u8
     m
 }
 
+#[tactic(auto, using(crate::proofs::Times::obeys_at, laws::proofs::Loops::mapping_none, laws::proofs::Loops::mapping_from, laws::proofs::Loops::mapping_all))]
 pub fn all_ticked(connections: [Connection; 8], step: u32) -> [Connection; 8]
     requires { (all connection_obeys connections ≡ true) × (step < 2 ^ 31) }
     ensures { result ≡ map (connection_ticked step) connections }
@@ -275,11 +296,13 @@ pub fn all_ticked(connections: [Connection; 8], step: u32) -> [Connection; 8]
 }
 
 // The rules are kept by whatever happens to a connection; it has a line in the verdict as this contract.
+#[tactic(auto, using(crate::proofs::Keeps::supervision_kept))]
 pub fn supervision_kept()
     ensures { SupervisionKept }
 {}
 
 // Two ticks of a connection come to one tick of both steps.
+#[tactic(auto, using(crate::proofs::Keeps::steps_add))]
 pub fn steps_add()
     ensures { StepsAdd }
 {}

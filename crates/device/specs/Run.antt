@@ -1,5 +1,5 @@
 -- R34, R38 to R47, R73. A command.
-use Rattle.std.specs.Prelude.{ℕ, Bool, cond, not, ◌&&◌, ◌||◌, List, map, set, ◌==◌, slice_index, slice_set}
+use Rattle.std.specs.Prelude.{ℕ, Bool, cond, not, ◌&&◌, ◌||◌, List, map, ◌==◌, slice_index, slice_set}
 use Rattle.laws.specs.Lists.{any}
 use Rattle.numbers.specs.Status.{held_by_other, strange_emitter, bad_value, out_of_turn, no_free_entry, carried_out}
 use Rattle.mechanism.specs.Arguments.{armed_by}

@@ -1,4 +1,6 @@
 // The device's state, passed by value and handed back: its connections, subscriptions, mutes, locks and reset mechanism.
+#![tactic(auto)]
+
 ghost use Rattle.std.specs.Prelude.{◌≡◌, ◌<◌, true, slice_set};
 ghost use Rattle.connection.specs.State.{closed};
 ghost use Rattle.device.specs.Setters.{with_connections};
@@ -17,7 +19,7 @@ use subscription::Subscription;
 const BACK: u32 = 2147483648;
 
 #[repr(C)]
-#[derive(Drop)]
+#[derive(Clone, Copy)]
 pub struct Device {
     pub reading: u32,
     pub connections: [Connection; 8],
@@ -27,7 +29,7 @@ pub struct Device {
     pub mechanism: Mechanism,
 }
 
-#[derive(Drop)]
+#[derive(Clone, Copy)]
 pub enum Opening {
     Number(u8),
     Full,
@@ -39,7 +41,7 @@ pub struct Opened {
     pub answer: Opening,
 }
 
-#[derive(Drop)]
+#[derive(Clone, Copy)]
 pub enum Closing {
     Done,
     NotOpen,
@@ -51,7 +53,7 @@ pub struct Closed {
     pub answer: Closing,
 }
 
-#[derive(Drop)]
+#[derive(Clone, Copy)]
 pub enum Ticking {
     Closed(u8),
     ClockBack,
@@ -71,6 +73,7 @@ fn since(reading: u32, last: u32) -> u32
 }
 
 // The connections with n closed; a number past the last closes none.
+#[tactic(auto, using(laws::proofs::Tables::length_mapped, crate::proofs::Times::shut_out))]
 fn shut(mut connections: [Connection; 8], n: u8) -> [Connection; 8]
     ensures { result ≡ slice_set connections n closed }
 {
@@ -82,6 +85,7 @@ fn shut(mut connections: [Connection; 8], n: u8) -> [Connection; 8]
 }
 
 impl Device {
+    #[tactic(auto, unfolding(octets::specs::Zeros::zeros, crate::specs::State::fresh_of))]
     pub fn fresh(reading: u32) -> Device
         ensures { result ≡ fresh_of reading }
     {
@@ -101,6 +105,7 @@ impl Device {
     }
 
     // The record rules hold.
+    #[tactic(auto, unfolding(crate::specs::Obeys::device_obeys))]
     pub fn obeys(self) -> bool
         ensures { result ≡ device_obeys self }
     {
@@ -118,6 +123,7 @@ impl Device {
     }
 
     // The lowest free number is opened.
+    #[tactic(auto, using(laws::proofs::Tables::length_mapped, crate::proofs::Times::open_full, crate::proofs::Times::open_done))]
     pub fn open(mut self) -> Opened
         ensures { result ≡ open_of self }
     {
@@ -156,6 +162,7 @@ impl Device {
     }
 
     // With these connections, whatever belongs to one that is not open is freed.
+    #[tactic(auto, using(crate::proofs::Times::swept_all))]
     fn swept(self, connections: [Connection; 8]) -> Device
         ensures { result ≡ sweep_of (with_connections self connections) }
     {
@@ -176,6 +183,7 @@ impl Device {
     }
 
     // Whatever is said of it, connection n is not open afterwards, and nothing of it is left.
+    #[tactic(auto, using(crate::proofs::Times::close_not, crate::proofs::Times::close_done))]
     pub fn close(mut self, n: u8) -> Closed
         ensures { result ≡ closing_of self n }
     {
@@ -196,6 +204,7 @@ impl Device {
     }
 
     // Time passes, to `reading`: the rules leave every count room for its step.
+    #[tactic(auto, using(crate::proofs::Times::tick_back, crate::proofs::Times::tick_ready, crate::proofs::Times::tick_done))]
     pub fn tick(mut self, reading: u32) -> Ticked
         requires { device_obeys self ≡ true }
         ensures { result ≡ tick_of self reading }
@@ -220,6 +229,7 @@ impl Device {
     }
 
     // A sound message came on connection n.
+    #[tactic(auto, using(laws::proofs::Tables::length_mapped, crate::proofs::Times::heard_in))]
     pub fn heard(self, n: u8) -> Device
         requires { n < 8 }
         ensures { result ≡ heard_at self n }
@@ -232,6 +242,7 @@ impl Device {
     }
 
     // A keep-alive came on connection n and is answered.
+    #[tactic(auto, using(laws::proofs::Tables::length_mapped, crate::proofs::Times::live_place, crate::proofs::Times::beating_not, crate::proofs::Times::beating_in))]
     pub fn keep_alive(self, n: u8, h: Heartbeat) -> Device
         ensures { result ≡ beating_at self n h }
     {
@@ -246,14 +257,17 @@ impl Device {
 }
 
 // The theorems of the device, as contracts of functions that do nothing: each has its line in the verdict.
+#[tactic(auto, using(crate::proofs::Keeps::rules_kept))]
 pub fn rules_kept()
     ensures { RulesKept }
 {}
 
+#[tactic(auto, using(crate::proofs::Keeps::failures_change_nothing))]
 pub fn failures_change_nothing()
     ensures { FailuresChangeNothing }
 {}
 
+#[tactic(auto, using(crate::proofs::Closures::closure_frees))]
 pub fn closure_frees()
     ensures { ClosureFrees }
 {}

@@ -1,4 +1,6 @@
 // The holders of the mutes' locks: 0 where none holds it, else connection + 1.
+#![tactic(auto)]
+
 ghost use Rattle.std.specs.Prelude.{◌≡◌, cond, map};
 ghost use Rattle.laws.specs.Lists.{all};
 ghost use Rattle.holders.specs.Holders.{owner_of, is_other, holder_obeys, swept_holder};
@@ -8,6 +10,7 @@ use connection::Connection;
 
 pub const HOLDERS: usize = 8;
 
+#[tactic(auto, using(laws::proofs::Conds::tests), unfolding(crate::specs::Holders::owner_of))]
 pub fn owner(n: u8) -> u8
     ensures { result ≡ owner_of n }
 {
@@ -19,6 +22,7 @@ pub fn owner(n: u8) -> u8
     }
 }
 
+#[tactic(auto, unfolding(crate::specs::Holders::is_other))]
 pub fn is_other(holder: u8, n: u8) -> bool
     ensures { result ≡ is_other holder n }
 {
@@ -27,12 +31,14 @@ pub fn is_other(holder: u8, n: u8) -> bool
 }
 
 // `live` is whether its connection is open.
+#[tactic(auto, using(crate::proofs::Holds::held_kept, crate::proofs::Holds::held_gone))]
 fn swept(holder: u8, live: bool) -> u8
     ensures { result ≡ cond live holder 0 }
 {
     if live { holder } else { 0 }
 }
 
+#[tactic(auto, using(crate::proofs::Holds::obeys_none, crate::proofs::Holds::obeys_past, crate::proofs::Holds::obeys_not, crate::proofs::Holds::obeys_more, laws::proofs::Loops::testing_none, laws::proofs::Loops::testing_end))]
 pub fn all_obey(holders: [u8; 8], connections: [Connection; 8]) -> bool
     ensures { result ≡ all (holder_obeys connections) holders }
 {
@@ -56,6 +62,7 @@ pub fn all_obey(holders: [u8; 8], connections: [Connection; 8]) -> bool
     true
 }
 
+#[tactic(auto, using(crate::proofs::Holds::held_above, crate::proofs::Holds::held_place, crate::proofs::Holds::held_fits, crate::proofs::Holds::sweeps_in, crate::proofs::Holds::sweeps_out, laws::proofs::Loops::mapping_none, laws::proofs::Loops::mapping_all))]
 pub fn all_swept(holders: [u8; 8], connections: [Connection; 8]) -> [u8; 8]
     ensures { result ≡ map (swept_holder connections) holders }
 {
@@ -76,6 +83,7 @@ pub fn all_swept(holders: [u8; 8], connections: [Connection; 8]) -> [u8; 8]
     out
 }
 
+#[tactic(auto, using(crate::proofs::Keeps::holders_kept))]
 pub fn holders_kept()
     ensures { HoldersKept }
 {}

@@ -1,4 +1,6 @@
 // The objects and their methods: which there are, what arguments they take, and what a reply carries.
+#![tactic(auto)]
+
 ghost use Rattle.std.specs.Prelude.{◌≡◌, true, ◌||◌, List, [], ◌∷◌, ◌+◌, ◌^◌, ◌<◌, ◌≤◌, ℕ, length};
 ghost use Rattle.laws.specs.Lists.{all};
 ghost use Rattle.objects.specs.Methods.{add_method, is_mute, method_number, place_of};
@@ -62,7 +64,7 @@ pub const MUTED: u8 = 1;
 pub const UNMUTED: u8 = 2;
 
 // What a reply carries: numbers alone, so that it can be handed to a host in another language.
-#[derive(Drop)]
+#[derive(Clone, Copy)]
 pub struct Answer {
     pub status: u8,
     pub count: u8,
@@ -76,6 +78,7 @@ pub fn method(level: u16, index: u16) -> u32
     (level as u32) * LEVEL + (index as u32)
 }
 
+#[tactic(auto, unfolding(crate::specs::Methods::is_mute))]
 pub fn is_mute(object: u32) -> bool
     ensures { result ≡ is_mute object }
 {
@@ -83,6 +86,7 @@ pub fn is_mute(object: u32) -> bool
 }
 
 // A mute's place among the eight.
+#[tactic(auto, using(crate::proofs::Shapes::mute_at_lem, crate::proofs::Shapes::place_is))]
 pub fn place(target: u32) -> usize
     requires { is_mute target ≡ true }
     ensures { (result ≡ place_of target) × (result < 8) }
@@ -90,12 +94,14 @@ pub fn place(target: u32) -> usize
     (target - FIRST_MUTE) as usize
 }
 
+#[tactic(auto, unfolding(crate::specs::Methods::is_manager))]
 fn is_manager(target: u32) -> bool
     ensures { result ≡ is_manager target }
 {
     (target == DEVICE_MANAGER) | (target == SUBSCRIPTION_MANAGER)
 }
 
+#[tactic(auto, unfolding(crate::specs::Methods::is_object))]
 pub fn is_object(target: u32) -> bool
     ensures { result ≡ is_object target }
 {
@@ -104,18 +110,21 @@ pub fn is_object(target: u32) -> bool
     manager | mute
 }
 
+#[tactic(auto, unfolding(crate::specs::Methods::is_telling))]
 pub fn is_telling(m: u32) -> bool
     ensures { result ≡ is_telling m }
 {
     (m == CLASS) | (m == LOCKABLE)
 }
 
+#[tactic(auto, unfolding(crate::specs::Methods::is_locking))]
 fn is_locking(m: u32) -> bool
     ensures { result ≡ is_locking m }
 {
     (m == LOCK) | (m == UNLOCK)
 }
 
+#[tactic(auto, using(crate::proofs::Shapes::has_common, crate::proofs::Shapes::has_muting, crate::proofs::Shapes::has_managing), unfolding(crate::specs::Methods::is_muting, crate::specs::Methods::is_subscribing))]
 pub fn has_method(target: u32, m: u32) -> bool
     ensures { result ≡ has_method target m }
 {
@@ -131,6 +140,7 @@ pub fn has_method(target: u32, m: u32) -> bool
         | ((m == RESET_KEY) & (target == DEVICE_MANAGER))
 }
 
+#[tactic(auto, unfolding(crate::specs::Tests::is_forbidden))]
 pub fn is_forbidden(target: u32, m: u32) -> bool
     ensures { result ≡ is_forbidden target m }
 {
@@ -139,6 +149,7 @@ pub fn is_forbidden(target: u32, m: u32) -> bool
     locking & manager
 }
 
+#[tactic(auto, using(laws::proofs::Conds::tests), unfolding(crate::specs::Tests::count_of))]
 fn count_of(m: u32) -> u8
     ensures { result ≡ count_of m }
 {
@@ -158,6 +169,7 @@ fn count_of(m: u32) -> u8
 }
 
 // How many bytes the context has that 3.1 gives.
+#[tactic(auto, unfolding(crate::specs::Tests::context_given))]
 pub fn context_given(part: &[u8]) -> usize
     requires { 18 ≤ length part.now }
     ensures { (result ≡ context_given part.now) × (result < 2 ^ 16) }
@@ -166,6 +178,7 @@ pub fn context_given(part: &[u8]) -> usize
 }
 
 // Status 4 for the arguments of 3.1, but for their number.
+#[tactic(auto, using(crate::proofs::Shapes::add_short, crate::proofs::Shapes::add_misfit, crate::proofs::Shapes::add_pair))]
 fn is_add_misfit(part: &[u8]) -> bool
     ensures { result ≡ (is_length_bad add_method part.now || is_pair_bad add_method part.now) }
 {
@@ -180,6 +193,7 @@ fn is_add_misfit(part: &[u8]) -> bool
 }
 
 // Status 7 for the arguments of 3.1.
+#[tactic(auto, unfolding(crate::specs::Tests::is_add_bad))]
 pub fn is_add_bad(part: &[u8]) -> bool
     requires { 21 + context_given part.now ≤ length part.now }
     ensures { result ≡ is_add_bad part.now }
@@ -189,6 +203,7 @@ pub fn is_add_bad(part: &[u8]) -> bool
 }
 
 // Of the methods but 3.1 and 3.14, whose arguments tell their length.
+#[tactic(auto, using(laws::proofs::Conds::tests), unfolding(crate::specs::Tests::length_of))]
 fn length_of(m: u32) -> usize
     requires { m ≡ add_method → ⊥ }
     ensures { (part : List ℕ) → result ≡ length_of m part }
@@ -202,6 +217,7 @@ fn length_of(m: u32) -> usize
     0
 }
 
+#[tactic(auto, using(crate::proofs::Shapes::count_bad, crate::proofs::Shapes::misfit_is, crate::proofs::Shapes::add_is, crate::proofs::Shapes::length_is))]
 pub fn is_malformed(m: u32, count: u8, part: &[u8]) -> bool
     ensures { result ≡ is_malformed m count part.now }
 {
@@ -218,6 +234,7 @@ pub fn is_malformed(m: u32, count: u8, part: &[u8]) -> bool
 }
 
 // The first status that applies of those that are known before the device is looked at.
+#[tactic(auto, using(crate::proofs::Shapes::first_object, crate::proofs::Shapes::first_method, crate::proofs::Shapes::first_forbidden, crate::proofs::Shapes::first_malformed, crate::proofs::Shapes::first_none))]
 pub fn first_status(target: u32, m: u32, count: u8, part: &[u8]) -> u8
     ensures { result ≡ first_status target m count part.now }
 {
@@ -236,12 +253,14 @@ pub fn first_status(target: u32, m: u32, count: u8, part: &[u8]) -> u8
     numbers::CARRIED_OUT
 }
 
+#[tactic(auto, unfolding(crate::specs::Tests::is_mute_value))]
 pub fn is_mute_value(v: u8) -> bool
     ensures { result ≡ is_mute_value v }
 {
     (v == MUTED) | (v == UNMUTED)
 }
 
+#[tactic(auto, using(laws::proofs::Loops::testing_none, laws::proofs::Loops::testing_more, laws::proofs::Loops::testing_not, laws::proofs::Loops::testing_end))]
 pub fn all_mute_values(mutes: [u8; 8]) -> bool
     ensures { result ≡ all is_mute_value mutes }
 {
@@ -261,6 +280,7 @@ pub fn methods_apart()
 {}
 
 impl Answer {
+    #[tactic(auto, unfolding(crate::specs::Answers::failed_of))]
     pub fn failed(status: u8) -> Answer
         ensures { result ≡ failed_of status }
     {
@@ -273,6 +293,7 @@ impl Answer {
         }
     }
 
+    #[tactic(auto, unfolding(crate::specs::Answers::answer_with))]
     pub fn done() -> Answer
         ensures { result ≡ answer_with [] }
     {
@@ -285,6 +306,7 @@ impl Answer {
         }
     }
 
+    #[tactic(auto, unfolding(crate::specs::Answers::answer_with))]
     pub fn byte(v: u8) -> Answer
         ensures { result ≡ answer_with (v ∷ []) }
     {
@@ -299,6 +321,7 @@ impl Answer {
     }
 
     // Class 1.1.1.2 of a mute; 1.3.1 or 1.3.4 of a manager.
+    #[tactic(auto, using(crate::proofs::Shapes::class_mute, crate::proofs::Shapes::class_device, crate::proofs::Shapes::class_subscription), unfolding(crate::specs::Answers::answer_with, crate::specs::Answers::identification_of, octets::specs::Numbers::bytes16))]
     pub fn class(target: u32) -> Answer
         ensures { result ≡ answer_with (identification_of (class_of target)) }
     {

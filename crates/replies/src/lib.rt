@@ -1,4 +1,6 @@
 // What the device sends, written into a lent output.
+#![tactic(auto)]
+
 ghost use Rattle.std.specs.Prelude.{◌≡◌, ◌+◌, ◌≤◌, ◌++◌, length, take};
 ghost use Rattle.std.proofs.lemmas.List.Edits.{sets};
 ghost use Rattle.octets.specs.Numbers.{bytes16};
@@ -37,6 +39,7 @@ const VALUE: usize = PROPERTY + 4;
 const CHANGE_TYPE: usize = VALUE + 1;
 
 // One response from place at on: the place behind it.
+#[tactic(auto, using(crate::proofs::Puts::response_stores))]
 pub fn put_response(out: &mut [u8], at: usize, handle: u32, answer: Answer) -> usize
     requires { (answer.length ≤ 12) × (at + 22 ≤ length out.old) }
     ensures { (result ≡ at + (least_response + answer.length))
@@ -53,6 +56,7 @@ pub fn put_response(out: &mut [u8], at: usize, handle: u32, answer: Answer) -> u
 }
 
 // Behind its count.
+#[tactic(auto, using(crate::proofs::Puts::context_stores))]
 fn put_context(out: &mut [u8], count: u8, context: [u8; 64])
     requires { (count ≤ greatest_context) × (103 ≤ length out.old) }
     ensures { out.new ≡ sets out.old 23 (bytes16 count ++ take count context) }
@@ -62,6 +66,7 @@ fn put_context(out: &mut [u8], count: u8, context: [u8; 64])
     octets::copy(&context[0..n], out, CONTEXT);
 }
 
+#[tactic(auto, using(crate::proofs::Puts::subscriber_stores))]
 fn put_subscriber(out: &mut [u8], s: Subscription)
     requires { (s.context_count ≤ greatest_context) × (103 ≤ length out.old) }
     ensures { out.new ≡ sets out.old 10 (subscriber_bytes s) }
@@ -76,6 +81,7 @@ fn put_subscriber(out: &mut [u8], s: Subscription)
 }
 
 // From the end of the context on.
+#[tactic(auto, using(crate::proofs::Puts::change_stores))]
 fn put_change(out: &mut [u8], at: usize, s: Subscription, value: u8)
     requires { at + 14 ≤ length out.old }
     ensures { out.new ≡ sets out.old at (change_bytes s value) }
@@ -88,6 +94,7 @@ fn put_change(out: &mut [u8], at: usize, s: Subscription, value: u8)
 }
 
 // The notification of a mute's value to a subscriber, at the output's front: its length.
+#[tactic(auto, using(crate::proofs::Puts::length_notification, crate::proofs::Puts::notification_stores))]
 pub fn put_notification(out: &mut [u8], s: Subscription, value: u8) -> usize
     requires { (s.context_count ≤ greatest_context) × (103 ≤ length out.old) }
     ensures { (result ≡ length (notification_bytes s value))
@@ -102,6 +109,7 @@ pub fn put_notification(out: &mut [u8], s: Subscription, value: u8) -> usize
 }
 
 // A keep-alive that carries a heartbeat, at the output's front: its length.
+#[tactic(auto, using(octets::proofs::Digits::length_bytes16, octets::proofs::Digits::length_bytes32, layout::proofs::Messages::length_message), unfolding(crate::specs::Bytes::keep_alive_bytes, heartbeat::specs::Beat::form_of, heartbeat::specs::Beat::value_of, layout::specs::Message::beat_bytes))]
 pub fn put_keep_alive(out: &mut [u8], h: Heartbeat) -> usize
     requires { 14 ≤ length out.old }
     ensures { (result ≡ length (keep_alive_bytes h)) × (out.new ≡ at_front (keep_alive_bytes h) out.old) }

@@ -1,4 +1,6 @@
 // What a whole message does: its commands run in order, a response to each in a lent output, and the reply.
+#![tactic(auto)]
+
 ghost use Rattle.std.specs.Prelude.{◌≡◌, cond, true, ◌+◌, ◌-◌, ◌*◌, ◌<◌, ◌≤◌, length, eqb};
 ghost use Rattle.std.proofs.lemmas.List.Edits.{sets};
 ghost use Rattle.frame.specs.Limits.{least_response, response};
@@ -53,6 +55,7 @@ fn channels_of(device: Device) -> Channels
 }
 
 // Runs count commands of connection n; those of type 1 are answered from place 10 of the output on.
+#[tactic(auto, using(laws::proofs::Parts::rest, frame::proofs::Entries::offset_other, frame::proofs::Entries::least_command_lem, crate::proofs::Ways::no_booking, crate::proofs::Ways::way_joined, crate::proofs::Ways::ran_as, crate::proofs::Ways::way_stored, crate::proofs::Ways::way_refused, crate::proofs::Ways::way_armed, crate::proofs::Ways::way_marked, crate::proofs::Ways::way_kept, crate::proofs::Serves::size_given, crate::proofs::Serves::parts_none, crate::proofs::Serves::parts_more, crate::proofs::Serves::answer_fits, crate::proofs::Serves::serving_last, crate::proofs::Serves::serving_end, crate::proofs::Serves::serving_bytes), unfolding(objects::specs::Methods::is_subscribing, crate::specs::Serve::ran_with, crate::specs::Serve::ran_first))]
 fn serve(device: Device, n: u8, kind: u8, count: u16, body: &[u8], out: &mut [u8]) -> Served
     requires { (kind < 2) × (entries_fill count kind body.now ≡ true) × (10 + count * 22 ≤ length out.old) }
     ensures { let told = responses_of count device n kind body.now in
@@ -60,9 +63,9 @@ fn serve(device: Device, n: u8, kind: u8, count: u16, body: &[u8], out: &mut [u8
         × (result.3 ≡ cond (eqb kind 0) 10 (10 + length told))
         × (out.new ≡ cond (eqb kind 0) out.old (sets out.old 10 told)) }
 {
-    let mut channels = channels_of(device);
     let mut subscriptions = device.subscriptions;
     let mut mechanism = device.mechanism;
+    let mut channels = channels_of(device);
     let mut t = body;
     let mut left = count;
     let mut at: usize = 10;
@@ -125,15 +128,17 @@ fn spoken(c: Connection, kind: u8) -> Connection
 }
 
 // Runs count commands, and answers those of type 1.
+#[tactic(auto, using(laws::proofs::Tables::length_mapped, crate::proofs::Replies::end_between, crate::proofs::Replies::commands_end))]
 fn commands(device: Device, n: u8, kind: u8, count: u16, body: &[u8], out: &mut [u8]) -> Ruling
     requires { (n < 8) × (kind < 2) × (entries_fill count kind body.now ≡ true) × (10 + count * 22 ≤ length out.old)
         × (count ≤ 119) }
     ensures { let q = commands_of device n kind count body.now in
         (result.device ≡ q.device) × (result.length ≡ length q.reply) × (out.new ≡ at_front q.reply out.old) }
 {
+    let reading = device.reading;
+    let mut connections = device.connections;
     let served = serve(device, n, kind, count, body, out);
     let length = reply(out, kind, count, served.3);
-    let mut connections = device.connections;
     let at = n as usize;
     let c = connections[at];
     connections[at] = spoken(c, kind);
@@ -143,7 +148,7 @@ fn commands(device: Device, n: u8, kind: u8, count: u16, body: &[u8], out: &mut 
     let subscriptions = served.1;
     let mechanism = served.2;
     let next = Device {
-        reading: device.reading,
+        reading,
         connections,
         subscriptions,
         mutes,
@@ -157,6 +162,7 @@ fn commands(device: Device, n: u8, kind: u8, count: u16, body: &[u8], out: &mut 
 }
 
 // A message of commands is heard, and they are run.
+#[tactic(auto, using(laws::proofs::Parts::rest, crate::proofs::Replies::fills, crate::proofs::Replies::few), unfolding(crate::specs::Sound::sound_of))]
 fn commanded(device: Device, n: u8, m: &[u8], out: &mut [u8]) -> Ruling
     requires { (n < 8) × (pdu_type m.now < 2) × SoundAt m.now (length m.now) × (4096 ≤ length out.old) }
     ensures { let q = sound_of device n m.now in
@@ -173,6 +179,7 @@ fn commanded(device: Device, n: u8, m: &[u8], out: &mut [u8]) -> Ruling
 }
 
 // A keep-alive is answered; a notification or a response is only heard.
+#[tactic(auto, using(laws::proofs::Parts::rest, crate::proofs::Replies::beats, crate::proofs::Replies::front_none), unfolding(crate::specs::Sound::kept_alive, crate::specs::Sound::sound_of))]
 fn others(device: Device, n: u8, m: &[u8], out: &mut [u8]) -> Ruling
     requires { (n < 8) × (2 ≤ pdu_type m.now) × SoundAt m.now (length m.now) × (4096 ≤ length out.old) }
     ensures { let q = sound_of device n m.now in
@@ -205,6 +212,7 @@ pub fn sound(device: Device, n: u8, m: &[u8], out: &mut [u8]) -> Ruling
 }
 
 // The theorems of a sound message, as the contract of a function that does nothing: it has its line in the verdict.
+#[tactic(auto, using(crate::proofs::Keeps::sound_kept))]
 pub fn sound_kept()
     ensures { SoundKept }
 {}

@@ -1,4 +1,6 @@
 // A subscription entry: who is told of which mute's changes.
+#![tactic(auto)]
+
 ghost use Rattle.std.specs.Prelude.{◌≡◌, cond, ◌&&◌, ◌||◌, map, ◌+◌, ◌≤◌, length};
 ghost use Rattle.laws.specs.Lists.{all, all_pairs};
 ghost use Rattle.frame.specs.Limits.{greatest_context};
@@ -23,7 +25,7 @@ const PLACES: [u8; 64] = [
 
 // An event and a method are level x 65,536 + index.
 #[repr(C)]
-#[derive(Drop)]
+#[derive(Clone, Copy)]
 pub struct Subscription {
     pub used: bool,
     pub waiting: bool,
@@ -37,6 +39,7 @@ pub struct Subscription {
 }
 
 // The arguments of add and remove, which tell the subscription: its context does not.
+#[tactic(auto, unfolding(octets::specs::Zeros::zeros, crate::specs::Arguments::subscription_from))]
 pub fn entry(n: u8, part: &[u8]) -> Subscription
     requires { 16 ≤ length part.now }
     ensures { result ≡ without_context (subscription_from n part.now) }
@@ -59,6 +62,7 @@ pub fn entry(n: u8, part: &[u8]) -> Subscription
 }
 
 // The context that add gives, zeros behind it.
+#[tactic(auto, using(crate::proofs::Entries::context_copied))]
 fn context_held(part: &[u8]) -> [u8; 64]
     requires { (context_given part.now ≤ greatest_context) × (21 + context_given part.now ≤ length part.now) }
     ensures { result ≡ context_held part.now }
@@ -70,6 +74,7 @@ fn context_held(part: &[u8]) -> [u8; 64]
 }
 
 // Every byte is looked at, whatever the count is: so they are tested sixteen at a time.
+#[tactic(auto, using(crate::proofs::Entries::counts_up, crate::proofs::Entries::keeping_none, crate::proofs::Entries::keeping_more, crate::proofs::Entries::keeping_all))]
 fn is_context_kept(count: u8, context: [u8; 64]) -> bool
     ensures { result ≡ is_context_kept count context }
 {
@@ -83,6 +88,7 @@ fn is_context_kept(count: u8, context: [u8; 64]) -> bool
     kept
 }
 
+#[tactic(auto, unfolding(crate::specs::Arguments::is_strange))]
 pub fn is_strange(part: &[u8]) -> bool
     requires { 8 ≤ length part.now }
     ensures { result ≡ is_strange part.now }
@@ -148,6 +154,7 @@ impl Subscription {
     }
 
     // `live` is whether its connection is open. Its context is tested at one place, where it lies: a second would copy it.
+    #[tactic(auto, using(crate::proofs::Entries::used_obeys, crate::proofs::Entries::unused_obeys))]
     fn obeys(self, live: bool) -> bool
         ensures { result ≡ (is_free self || sound_as live self) }
     {
@@ -160,6 +167,7 @@ impl Subscription {
     }
 
     // The same subscription, whatever its context. Most pairs differ in their emitters.
+    #[tactic(auto, using(crate::proofs::Entries::twin_not), unfolding(crate::specs::State::is_twin))]
     pub fn is_twin(self, t: Subscription) -> bool
         ensures { result ≡ is_twin self t }
     {
@@ -175,6 +183,7 @@ impl Subscription {
             & (self.method == t.method)
     }
 
+    #[tactic(auto, using(crate::proofs::Entries::marked_now, crate::proofs::Entries::marked_not))]
     pub fn marked(mut self, emitter: u32) -> Subscription
         ensures { result ≡ marked_of emitter self }
     {
@@ -186,6 +195,7 @@ impl Subscription {
     }
 
     // A waiting entry is told: it waits no more.
+    #[tactic(auto, unfolding(crate::specs::State::told_of))]
     pub fn told(mut self) -> Subscription
         ensures { result ≡ told_of self }
     {
@@ -194,6 +204,7 @@ impl Subscription {
     }
 
     // `live` is whether its connection is open.
+    #[tactic(auto, using(crate::proofs::Entries::swept_gone, crate::proofs::Entries::swept_kept), unfolding(octets::specs::Zeros::zeros))]
     fn swept(self, live: bool) -> Subscription
         ensures { result ≡ swept_by live self }
     {
@@ -215,6 +226,7 @@ fn before(used: bool, i: usize) -> usize
 }
 
 // From the last entry down, each by itself and then with those before it: entry i has still to be compared with j of them.
+#[tactic(auto, using(crate::proofs::Walks::walking_none, crate::proofs::Walks::walking_inside, crate::proofs::Walks::walking_twin, crate::proofs::Walks::walking_more, crate::proofs::Walks::walking_past, crate::proofs::Walks::walking_not, crate::proofs::Walks::walking_next, crate::proofs::Walks::walking_less, crate::proofs::Walks::walking_end))]
 pub fn all_obey(entries: [Subscription; 32], connections: [Connection; 8]) -> bool
     ensures { result ≡ (all (entry_obeys connections) entries && all_pairs apart entries) }
 {
@@ -246,6 +258,7 @@ pub fn all_obey(entries: [Subscription; 32], connections: [Connection; 8]) -> bo
 }
 
 // The lowest waiting entry, or 32.
+#[tactic(auto, using(crate::proofs::Entries::waiting_is, laws::proofs::Loops::searching_none, laws::proofs::Loops::searching_more, laws::proofs::Loops::searching_here, laws::proofs::Loops::searching_end))]
 pub fn lowest_waiting(entries: [Subscription; 32]) -> usize
     ensures { result ≡ lowest_waiting entries }
 {
@@ -260,6 +273,7 @@ pub fn lowest_waiting(entries: [Subscription; 32]) -> usize
     i
 }
 
+#[tactic(auto, using(laws::proofs::Loops::mapping_none, laws::proofs::Loops::mapping_more, laws::proofs::Loops::mapping_all))]
 pub fn all_marked(entries: [Subscription; 32], emitter: u32) -> [Subscription; 32]
     ensures { result ≡ map (marked_of emitter) entries }
 {
@@ -273,6 +287,7 @@ pub fn all_marked(entries: [Subscription; 32], emitter: u32) -> [Subscription; 3
     out
 }
 
+#[tactic(auto, using(crate::proofs::Entries::sweeps_in, crate::proofs::Entries::sweeps_past, laws::proofs::Loops::mapping_none, laws::proofs::Loops::mapping_all, laws::proofs::Tables::length_mapped))]
 pub fn all_swept(entries: [Subscription; 32], connections: [Connection; 8]) -> [Subscription; 32]
     ensures { result ≡ map (swept_of connections) entries }
 {
@@ -293,6 +308,7 @@ pub fn all_swept(entries: [Subscription; 32], connections: [Connection; 8]) -> [
     out
 }
 
+#[tactic(auto, using(crate::proofs::Keeps::entries_kept))]
 pub fn entries_kept()
     ensures { EntriesKept }
 {}

@@ -1,0 +1,10 @@
+use Rattle.subscription.specs.State.{marked_of}
+use Rattle.laws.proofs.Loops.{Mapping}
+use Prim.Native.Nat.{◌-◌}
+use Rattle.subscription.proofs.all_marked.Given as goal
+
+abbrev pub invariant-loop-i : goal.invariant-loop-i
+invariant-loop-i l = Mapping (marked_of l.emitter) 32 l.i l.initial.out l.out
+
+abbrev pub decreases-loop-i : goal.decreases-loop-i
+decreases-loop-i l = 32 - l.i
