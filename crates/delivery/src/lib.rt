@@ -1,4 +1,6 @@
 // What a piece of an open connection does: it is gathered and decided, and then waits, closes or runs.
+#![tactic(auto)]
+
 ghost use Rattle.std.specs.Prelude.{◌≡◌, ◌-◌, ◌≤◌, length};
 ghost use Rattle.answers.specs.Numbers.{delivery_numbers};
 ghost use Rattle.area.specs.Area.{undecided_of};
@@ -20,6 +22,7 @@ pub struct Delivered {
 }
 
 // The sound message of t bytes at the front of connection n's part, of which k were there before, is run; `used` bytes lie there.
+#[tactic(auto, using(crate::proofs::Delivers::messaged_is), unfolding(area::specs::Area::undecided_of))]
 fn run(
     device: Device,
     area: &mut [u8],
@@ -47,6 +50,7 @@ fn run(
 }
 
 // A piece of connection n, which is open and has `held` undecided bytes.
+#[tactic(auto, using(area::proofs::Gathers::waits_few, area::proofs::Gathers::waits_gathered, area::proofs::Gathers::cleared_gathered, area::proofs::Gathers::decided_behind, area::proofs::Gathers::message_lies, area::proofs::Gathers::message_whole, device::proofs::Times::close_device, crate::proofs::Delivers::taken_waits, crate::proofs::Delivers::taken_closed, crate::proofs::Delivers::taken_runs), unfolding(frame::specs::Decide::taken, frame::specs::Decide::settled))]
 pub fn take_in(
     device: Device,
     held: u16,

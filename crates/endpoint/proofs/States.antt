@@ -1,14 +1,14 @@
 -- Laws of the record, of the lent area, and of the ways of the host's calls. Assumes nothing.
 use Prim.Native.Nat.{ℕ, zero, suc, ◌+◌, ◌<◌, ◌≤◌}
 use mathlib.Core.Path.{◌≡◌, refl, sym, ap, ◌∙◌}
-use mathlib.Core.Bool.{Bool, true, false, not, true≢false}
+use mathlib.Core.Bool.{Bool, true, false, true≢false}
 use mathlib.Core.List.{List, [], ◌∷◌, ◌++◌, map, append-nil}
 use native.Mathlib.Nat.{not-suc-le-zero, le_of_suc-le-suc}
 use native.Mathlib.Numerals.{add-one}
 use native.Mathlib.Omega.{arith}
 use lib.ListN.{length, take, drop, set, get_or, drop_of_length-le}
 use lib.Seq.{take_all}
-use borrow.Author.Tests.{eq-eqb, not-true, not-false}
+use borrow.Author.Tests.{eq-eqb}
 use Rattle.laws.proofs.Conds.{and_left}
 use Rattle.octets.specs.Zeros.{zeros}
 use Rattle.area.specs.Area.{area_bytes, area_sound, part_cleared, closed_cleared, held_kept}
@@ -103,57 +103,57 @@ module _ (r : Record) (area : List ℕ) (reading : ℕ) (k : Ticked) (q : k ≡ 
 
 -- b is what the call that tests the record gave
 module _ (r : Record) (b : Bool) (tested : b ≡ record_obeys r) where
-  pub open_bad : not b ≡ true → refused bad_record r [] [] ≡ open_call r
+  pub open_bad : b ≡ false → refused bad_record r [] [] ≡ open_call r
   unfolding open_call
-  open_bad t = rw (← tested, not-true b t)
+  open_bad t = rw (← tested, t)
 
-  pub open_number : not b ≡ false → (o : Opened) (n : ℕ) → o ≡ open_of r.device → o.answer ≡ opening.Number n
+  pub open_number : b ≡ true → (o : Opened) (n : ℕ) → o ≡ open_of r.device → o.answer ≡ opening.Number n
       → outcome (0 ∷ n ∷ []) (state_of o.device r.held) [] [] ≡ open_call r
   unfolding open_call opened_by
-  open_number t o n q a = rw (← tested, not-false b t, ← q, a)
+  open_number t o n q a = rw (← tested, t, ← q, a)
 
-  pub open_full : not b ≡ false → (o : Opened) → o ≡ open_of r.device → o.answer ≡ opening.Full → refused table_full r [] [] ≡ open_call r
+  pub open_full : b ≡ true → (o : Opened) → o ≡ open_of r.device → o.answer ≡ opening.Full → refused table_full r [] [] ≡ open_call r
   unfolding open_call opened_by
-  open_full t o q a = rw (← tested, not-false b t, ← q, a)
+  open_full t o q a = rw (← tested, t, ← q, a)
 
-  pub close_bad : not b ≡ true → (area : List ℕ) (n : ℕ) → refused bad_record r area [] ≡ close_call r area n
+  pub close_bad : b ≡ false → (area : List ℕ) (n : ℕ) → refused bad_record r area [] ≡ close_call r area n
   unfolding close_call
-  close_bad t area n = rw (← tested, not-true b t)
+  close_bad t area n = rw (← tested, t)
 
-  pub tested_device : not b ≡ false → device_obeys r.device ≡ true
-  tested_device t = device_obeys_lem r (sym tested ∙ not-false b t)
+  pub tested_device : b ≡ true → device_obeys r.device ≡ true
+  tested_device t = device_obeys_lem r (sym tested ∙ t)
 
-  pub tick_bad : not b ≡ true → (area : List ℕ) (reading : ℕ) → refused bad_record r area [] ≡ tick_call r area reading
+  pub tick_bad : b ≡ false → (area : List ℕ) (reading : ℕ) → refused bad_record r area [] ≡ tick_call r area reading
   unfolding tick_call
-  tick_bad t area reading = rw (← tested, not-true b t)
+  tick_bad t area reading = rw (← tested, t)
 
   -- s is what the call that tests the area gave
-  module _ (t : not b ≡ false) (area part : List ℕ) (whole : part ≡ area) (s : Bool) (sounded : s ≡ area_sound r.held part) where
+  module _ (t : b ≡ true) (area part : List ℕ) (whole : part ≡ area) (s : Bool) (sounded : s ≡ area_sound r.held part) where
     sound : area_sound r.held area ≡ s
     sound = rw (← whole) (sym sounded)
 
-    pub close_area : not s ≡ true → (n : ℕ) → refused bad_area r area [] ≡ close_call r area n
+    pub close_area : s ≡ false → (n : ℕ) → refused bad_area r area [] ≡ close_call r area n
     unfolding close_call
-    close_area u n = rw (← tested, not-false b t, sound, not-true s u)
+    close_area u n = rw (← tested, t, sound, u)
 
-    pub tick_area : not s ≡ true → (reading : ℕ) → refused bad_area r area [] ≡ tick_call r area reading
+    pub tick_area : s ≡ false → (reading : ℕ) → refused bad_area r area [] ≡ tick_call r area reading
     unfolding tick_call
-    tick_area u reading = rw (← tested, not-false b t, sound, not-true s u)
+    tick_area u reading = rw (← tested, t, sound, u)
 
-    module _ (u : not s ≡ false) where
+    module _ (u : s ≡ true) where
       pub sound_long : length area ≡ area_bytes
-      sound_long = area_long r.held area (sound ∙ not-false s u)
+      sound_long = area_long r.held area (sound ∙ u)
 
-      pub close_none : (n : ℕ) (l : Bool) → l ≡ live_at r.device.connections n → not l ≡ true → refused no_connection r area [] ≡ close_call r area n
+      pub close_none : (n : ℕ) (l : Bool) → l ≡ live_at r.device.connections n → l ≡ false → refused no_connection r area [] ≡ close_call r area n
       unfolding close_call
-      close_none n l q v = rw (← tested, not-false b t, sound, not-false s u, ← q, not-true l v)
+      close_none n l q v = rw (← tested, t, sound, u, ← q, v)
 
-      pub close_done : (n : ℕ) (l : Bool) → l ≡ live_at r.device.connections n → not l ≡ false → (z : Record) (next : List ℕ) → z ≡ closed_state r n
+      pub close_done : (n : ℕ) (l : Bool) → l ≡ live_at r.device.connections n → l ≡ true → (z : Record) (next : List ℕ) → z ≡ closed_state r n
           → next ≡ part_cleared area n → outcome (0 ∷ []) z next [] ≡ close_call r area n
       unfolding close_call
-      close_done n l q v z next x y = rw (← tested, not-false b t, sound, not-false s u, ← q, not-false l v, x, y)
+      close_done n l q v z next x y = rw (← tested, t, sound, u, ← q, v, x, y)
 
       pub tick_passed : (reading : ℕ) (o : Outcome) → o ≡ ticked_by (tick_of r.device reading).answer r (tick_of r.device reading) area
           → o ≡ tick_call r area reading
       unfolding tick_call
-      tick_passed reading o q = rw (← tested, not-false b t, sound, not-false s u) q
+      tick_passed reading o q = rw (← tested, t, sound, u) q

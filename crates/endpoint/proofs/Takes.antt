@@ -1,10 +1,10 @@
 -- The ways of a take. Assumes nothing.
 use Prim.Native.Nat.{ℕ, ◌<◌, ◌≤◌}
 use mathlib.Core.Path.{◌≡◌, sym, ap, ◌∙◌}
-use mathlib.Core.Bool.{Bool, true, false, not}
+use mathlib.Core.Bool.{Bool, true, false}
 use mathlib.Core.List.{List, []}
 use lib.ListN.{length}
-use borrow.Author.Tests.{lt-ltb, le-ltb, not-true, not-false}
+use borrow.Author.Tests.{lt-ltb, le-ltb}
 use Rattle.laws.proofs.Conds.{and_left}
 use Rattle.answers.specs.Numbers.{taking_numbers}
 use Rattle.answers.specs.declared.Taking.TheVariants.{BadRecord, NoRoom}
@@ -21,20 +21,20 @@ use Rattle.endpoint.specs.declared.Record.{Record}
 
 -- b is what the test of the record gave
 module _ (r : Record) (out : List ℕ) (b : Bool) (q : b ≡ record_obeys r) where
-  pub take_broken : not b ≡ true → outcome (taking_numbers BadRecord) r [] out ≡ take_call r out
+  pub take_broken : b ≡ false → outcome (taking_numbers BadRecord) r [] out ≡ take_call r out
   unfolding take_call
-  take_broken t = rw (← q, not-true b t)
+  take_broken t = rw (← q, t)
 
-  module _ (t : not b ≡ false) where
+  module _ (t : b ≡ true) where
     pub device_rules : device_obeys r.device ≡ true
     unfolding record_obeys
-    device_rules = and_left (device_obeys r.device) (held_obeys (lives_in r.device) r.held) (sym q ∙ not-false b t)
+    device_rules = and_left (device_obeys r.device) (held_obeys (lives_in r.device) r.held) (sym q ∙ t)
 
     pub take_short : length out < least_output → outcome (taking_numbers NoRoom) r [] out ≡ take_call r out
     unfolding take_call
-    take_short h = rw (← q, not-false b t, lt-ltb (length out) least_output h)
+    take_short h = rw (← q, t, lt-ltb (length out) least_output h)
 
     pub take_done : least_output ≤ length out → (x : List ℕ) (d : Device) (o : List ℕ) → dispatch x d o ≡ dispatched r.device out
         → outcome x (state_of d r.held) [] o ≡ take_call r out
     unfolding take_call
-    take_done h x d o e = rw (← q, not-false b t, le-ltb (length out) least_output h) (ap (with_dispatch r) e)
+    take_done h x d o e = rw (← q, t, le-ltb (length out) least_output h) (ap (with_dispatch r) e)

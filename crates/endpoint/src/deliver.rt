@@ -13,6 +13,7 @@ use answers::Delivery;
 
 impl Record {
     // A piece of connection n, which is open.
+    #[tactic(auto, using(crate::proofs::Delivers::brought_in))]
     fn take_in(mut self, area: &mut [u8], n: u8, piece: &[u8], output: &mut [u8]) -> Delivered
         requires { Lying area.old n (held_at self n) × (least_output ≤ length output.old) }
         ensures { outcome (delivery_numbers result.answer) result.state area.new output.new
@@ -33,6 +34,7 @@ impl Record {
     }
 
     // R28. A piece of connection n's bytes: taken as far as the first byte that decides.
+    #[tactic(auto, using(laws::proofs::Parts::rest, laws::proofs::Tables::length_mapped, crate::proofs::Delivers::deliver_bad, crate::proofs::Delivers::deliver_area, crate::proofs::Delivers::deliver_none, crate::proofs::Delivers::deliver_room, crate::proofs::Delivers::deliver_done, crate::proofs::Delivers::deliver_lies))]
     pub fn deliver(self, area: &mut [u8], n: u8, piece: &[u8], output: &mut [u8]) -> Delivered
         ensures { DeliverGives self area.old n piece.now output.old result
             area.new output.new }

@@ -1,4 +1,6 @@
 // The endpoint: the record that is passed and handed back, the lent area, and the calls of a host.
+#![tactic(auto)]
+
 ghost use Rattle.std.specs.Prelude.{◌≡◌, true, [], ◌<◌, length};
 ghost use Rattle.area.specs.Area.{area_bytes};
 ghost use Rattle.device.specs.Obeys.{device_obeys};
@@ -22,7 +24,7 @@ pub const OUTPUT: usize = 4096;
 
 // The device, and each connection's count of undecided bytes.
 #[repr(C)]
-#[derive(Drop)]
+#[derive(Clone, Copy)]
 pub struct Record {
     pub device: Device,
     pub held: [u16; 8],
@@ -59,6 +61,7 @@ pub struct Taken {
 }
 
 // An area of zeros, for a fresh record.
+#[tactic(auto, using(crate::proofs::States::clear_done, laws::proofs::Conds::tests), unfolding(crate::specs::Calls::clear_answer, crate::specs::Calls::cleared_area))]
 pub fn clear_area(area: &mut [u8]) -> Clearing
     ensures { ClearGives area.old result area.new }
 {
@@ -85,6 +88,7 @@ pub(crate) fn lives(device: Device) -> [bool; 8]
 }
 
 impl Record {
+    #[tactic(auto, unfolding(octets::specs::Zeros::zeros, crate::specs::State::fresh_state))]
     pub fn fresh(reading: u32) -> Record
         ensures { FreshGives reading result }
     {
@@ -94,6 +98,7 @@ impl Record {
     }
 
     // The record rules hold.
+    #[tactic(auto, unfolding(crate::specs::State::record_obeys))]
     pub fn obeys(self) -> bool
         ensures { ObeysGives self result }
     {
@@ -105,6 +110,7 @@ impl Record {
     }
 
     // A connection is opened.
+    #[tactic(auto, using(crate::proofs::States::open_bad, crate::proofs::States::open_number, crate::proofs::States::open_full))]
     pub fn open(mut self) -> Opened
         ensures { OpenGives self result }
     {
@@ -148,6 +154,7 @@ impl Record {
     }
 
     // The host's close.
+    #[tactic(auto, using(laws::proofs::Parts::rest, laws::proofs::Tables::length_mapped, crate::proofs::States::live_low, crate::proofs::States::close_bad, crate::proofs::States::close_area, crate::proofs::States::close_none, crate::proofs::States::close_done, crate::proofs::States::sound_long))]
     pub fn close(mut self, area: &mut [u8], n: u8) -> Closed
         ensures { CloseGives self area.old n result area.new }
     {
@@ -183,6 +190,7 @@ impl Record {
     }
 
     // Time passes for a record and an area that are not refused.
+    #[tactic(auto, using(crate::proofs::States::tick_closed, crate::proofs::States::tick_back))]
     fn pass(mut self, area: &mut [u8], reading: u32) -> Ticked
         requires { (length area.old ≡ area_bytes) × (device_obeys self.device ≡ true) }
         ensures { outcome (ticking_numbers result.answer) result.state area.new []
@@ -214,6 +222,7 @@ impl Record {
     }
 
     // Time passes, to a reading of the host's counter.
+    #[tactic(auto, using(laws::proofs::Parts::rest, crate::proofs::States::tick_bad, crate::proofs::States::tick_area, crate::proofs::States::tick_passed, crate::proofs::States::sound_long, crate::proofs::States::tested_device))]
     pub fn tick(mut self, area: &mut [u8], reading: u32) -> Ticked
         ensures { TickGives self area.old reading result area.new }
     {
@@ -235,6 +244,7 @@ impl Record {
 }
 
 // Two results of a call that its promise allows are equal.
+#[tactic(auto, using(crate::proofs::Tells::results_tell))]
 pub fn results_tell()
     ensures { ResultsTell }
 {}

@@ -6,6 +6,7 @@ use answers::Taking;
 
 impl Record {
     // One message, and its connection.
+    #[tactic(auto, using(crate::proofs::Takes::take_broken, crate::proofs::Takes::take_short, crate::proofs::Takes::take_done, crate::proofs::Takes::device_rules))]
     pub fn take(mut self, output: &mut [u8]) -> Taken
         ensures { TakeGives self output.old result output.new }
     {

@@ -1,4 +1,6 @@
 // The host's loop: a piece is offered again until all of it is taken, the connection is closed, or a delivery is refused.
+#![tactic(auto)]
+
 ghost use Rattle.std.specs.Prelude.{◌≡◌, ◌≤◌, length};
 ghost use Rattle.answers.specs.Numbers.{delivery_numbers};
 ghost use Rattle.feed.specs.Feed.{is_message, reply_length, Feeds};
@@ -8,7 +10,7 @@ ghost use Rattle.feed.specs.Tell.{FeedingTells};
 use answers::Delivery;
 use endpoint::Record;
 
-#[derive(Drop)]
+#[derive(Clone, Copy)]
 pub struct Fed {
     pub state: Record,
     // of the last delivery
@@ -19,6 +21,7 @@ pub struct Fed {
     pub put: usize,
 }
 
+#[tactic(auto, using(crate::proofs::Feedings::told_kind))]
 fn is_message(answer: Delivery) -> bool
     ensures { result ≡ is_message (delivery_numbers answer) }
 {
@@ -26,6 +29,7 @@ fn is_message(answer: Delivery) -> bool
     told.first == numbers::KIND_MESSAGE
 }
 
+#[tactic(auto, using(crate::proofs::Feedings::told_length, crate::proofs::Feedings::told_none))]
 fn reply_length(answer: Delivery) -> usize
     ensures { result ≡ reply_length (delivery_numbers answer) }
 {
@@ -37,6 +41,7 @@ fn reply_length(answer: Delivery) -> usize
 }
 
 // What is left of the piece is delivered, with the output behind the replies so far.
+#[tactic(auto, using(laws::proofs::Parts::rest, laws::proofs::Tables::length_mapped, crate::proofs::Feedings::put_back, crate::proofs::Feedings::told_taken, crate::proofs::Feedings::offer_within, crate::proofs::Feedings::offer_fits, crate::proofs::Feedings::offers))]
 fn offer(
     state: Record,
     area: &mut [u8],
@@ -64,6 +69,7 @@ fn offer(
 }
 
 // Behind a sound message, bytes of the piece are left.
+#[tactic(auto, unfolding(crate::specs::Scaffold::goes_on))]
 fn goes_on(fed: Fed, whole: usize) -> bool
     ensures { result ≡ goes_on fed whole }
 {
@@ -72,6 +78,7 @@ fn goes_on(fed: Fed, whole: usize) -> bool
 }
 
 // R28. A piece of connection n's bytes, offered again behind each sound message; the replies stand one behind another.
+#[tactic(auto, using(crate::proofs::Feedings::left_to, crate::proofs::Feedings::going_first, crate::proofs::Feedings::going_again, crate::proofs::Feedings::less_left, crate::proofs::Feedings::going_all))]
 pub fn feed(state: Record, area: &mut [u8], n: u8, piece: &[u8], output: &mut [u8]) -> Fed
     ensures { Feeds state area.old n piece.now output.old result
         area.new output.new }
@@ -84,6 +91,7 @@ pub fn feed(state: Record, area: &mut [u8], n: u8, piece: &[u8], output: &mut [u
 }
 
 // Two results that the promise of feeding allows are equal.
+#[tactic(auto, using(crate::proofs::Tells::feeding_told))]
 pub fn feeding_tells()
     ensures { FeedingTells }
 {}

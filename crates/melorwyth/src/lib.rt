@@ -1,4 +1,6 @@
 // The C boundary: every call of the endpoint, the datagram's, the reader's and the writer's, with numbers, slices and structs by value.
+#![tactic(auto)]
+
 ghost use Rattle.std.specs.Prelude.{◌≡◌, ◌<◌};
 ghost use Rattle.numbers.specs.Kind.{kind_closed};
 ghost use Rattle.melorwyth.specs.Answers.{fault_in, length_in};
@@ -77,6 +79,7 @@ pub struct Reset {
 }
 
 // The third number of a delivery: a closure's fault, or the length of a message's reply.
+#[tactic(auto, using(laws::proofs::Conds::tests), unfolding(crate::specs::Answers::fault_in))]
 fn fault_in(told: Numbers) -> u8
     requires { told.first ≡ kind_closed → told.third < 256 }
     ensures { result ≡ fault_in told }
@@ -87,6 +90,7 @@ fn fault_in(told: Numbers) -> u8
     0
 }
 
+#[tactic(auto, using(laws::proofs::Conds::tests), unfolding(crate::specs::Answers::length_in))]
 fn length_in(told: Numbers) -> usize
     ensures { result ≡ length_in told }
 {
@@ -96,22 +100,20 @@ fn length_in(told: Numbers) -> usize
     0
 }
 
-#[unsafe(no_mangle)]
-pub extern "C" fn melorwyth_version() -> u32
+pub fn melorwyth_version() -> u32
     ensures { VersionHands result }
 {
     VERSION
 }
 
-#[unsafe(no_mangle)]
-pub extern "C" fn melorwyth_fresh(reading: u32) -> Record
+pub fn melorwyth_fresh(reading: u32) -> Record
     ensures { FreshHands reading result }
 {
     Record::fresh(reading)
 }
 
-#[unsafe(no_mangle)]
-pub extern "C" fn melorwyth_clear(area: &mut [u8]) -> Cleared
+#[tactic(auto, unfolding(crate::specs::Answers::cleared_of))]
+pub fn melorwyth_clear(area: &mut [u8]) -> Cleared
     ensures { ClearHands area.old result area.new }
 {
     let answer = endpoint::clear_area(area);
@@ -121,8 +123,8 @@ pub extern "C" fn melorwyth_clear(area: &mut [u8]) -> Cleared
     }
 }
 
-#[unsafe(no_mangle)]
-pub extern "C" fn melorwyth_open(state: Record) -> Opened
+#[tactic(auto, using(crate::proofs::Tellings::told), unfolding(crate::specs::Answers::opened_of))]
+pub fn melorwyth_open(state: Record) -> Opened
     ensures { OpenHands state result }
 {
     let done = state.open();
@@ -136,8 +138,8 @@ pub extern "C" fn melorwyth_open(state: Record) -> Opened
     }
 }
 
-#[unsafe(no_mangle)]
-pub extern "C" fn melorwyth_close(state: Record, area: &mut [u8], n: u8) -> Closed
+#[tactic(auto, using(crate::proofs::Tellings::told, crate::proofs::Tellings::area_told), unfolding(crate::specs::Answers::closed_of))]
+pub fn melorwyth_close(state: Record, area: &mut [u8], n: u8) -> Closed
     ensures { CloseHands state area.old n result area.new }
 {
     let done = state.close(area, n);
@@ -150,8 +152,8 @@ pub extern "C" fn melorwyth_close(state: Record, area: &mut [u8], n: u8) -> Clos
     }
 }
 
-#[unsafe(no_mangle)]
-pub extern "C" fn melorwyth_tick(state: Record, area: &mut [u8], reading: u32) -> Ticked
+#[tactic(auto, using(crate::proofs::Tellings::told, crate::proofs::Tellings::area_told), unfolding(crate::specs::Answers::ticked_of))]
+pub fn melorwyth_tick(state: Record, area: &mut [u8], reading: u32) -> Ticked
     ensures { TickHands state area.old reading result area.new }
 {
     let done = state.tick(area, reading);
@@ -165,8 +167,8 @@ pub extern "C" fn melorwyth_tick(state: Record, area: &mut [u8], reading: u32) -
     }
 }
 
-#[unsafe(no_mangle)]
-pub extern "C" fn melorwyth_deliver(
+#[tactic(auto, using(crate::proofs::Tellings::told, crate::proofs::Tellings::area_told, crate::proofs::Tellings::output_told), unfolding(crate::specs::Answers::delivered_of))]
+pub fn melorwyth_deliver(
     state: Record,
     area: &mut [u8],
     n: u8,
@@ -192,8 +194,8 @@ pub extern "C" fn melorwyth_deliver(
     }
 }
 
-#[unsafe(no_mangle)]
-pub extern "C" fn melorwyth_take(state: Record, output: &mut [u8]) -> Taken
+#[tactic(auto, using(crate::proofs::Tellings::told, crate::proofs::Tellings::output_told), unfolding(crate::specs::Answers::taken_of))]
+pub fn melorwyth_take(state: Record, output: &mut [u8]) -> Taken
     ensures { TakeHands state output.old result output.new }
 {
     let done = state.take(output);
@@ -210,8 +212,8 @@ pub extern "C" fn melorwyth_take(state: Record, output: &mut [u8]) -> Taken
     }
 }
 
-#[unsafe(no_mangle)]
-pub extern "C" fn melorwyth_datagram(state: Record, area: &mut [u8], datagram: &[u8]) -> Reset
+#[tactic(auto, using(crate::proofs::Tellings::told, crate::proofs::Tellings::area_told), unfolding(crate::specs::Answers::reset_of))]
+pub fn melorwyth_datagram(state: Record, area: &mut [u8], datagram: &[u8]) -> Reset
     ensures { DatagramHands state area.old datagram.now result area.new }
 {
     let done = reset::datagram(state, area, datagram);
@@ -226,11 +228,13 @@ pub extern "C" fn melorwyth_datagram(state: Record, area: &mut [u8], datagram: &
 }
 
 // Two results of a function that its promise allows are equal.
+#[tactic(auto, using(crate::proofs::Handed::handed_tell))]
 pub fn handed_tell()
     ensures { HandedTell }
 {}
 
 // Every number that is told is 0 or a refusal of the table, and 7 is none.
+#[tactic(auto, using(crate::proofs::Told::numbers_told))]
 pub fn numbers_told()
     ensures { NumbersTold }
 {}

@@ -86,6 +86,7 @@ fn read(kind: u8, count: u16, form: u8, value: u32, length: usize) -> Reading
     }
 }
 
+#[tactic(auto, unfolding(reader::specs::Numbers::message_numbers, reader::specs::Numbers::heartbeat_numbers, crate::specs::Messages::reading_of))]
 fn of_message(message: Message, length: usize) -> Reading
     ensures { result ≡ reading_of (not_refused ∷ length ∷ message_numbers message) }
 {
@@ -104,6 +105,7 @@ fn of_message(message: Message, length: usize) -> Reading
     }
 }
 
+#[tactic(auto, unfolding(reader::specs::Numbers::reading_numbers, crate::specs::Messages::reading_of))]
 fn of_reading(answer: reader::Reading) -> Reading
     ensures { result ≡ reading_of (reading_numbers answer) }
 {
@@ -114,13 +116,13 @@ fn of_reading(answer: reader::Reading) -> Reading
     }
 }
 
-#[unsafe(no_mangle)]
-pub extern "C" fn melorwyth_read_message(bytes: &[u8]) -> Reading
+pub fn melorwyth_read_message(bytes: &[u8]) -> Reading
     ensures { ReadingHands bytes.now result }
 {
     of_reading(reader::read_message(bytes))
 }
 
+#[tactic(auto, unfolding(reader::specs::Numbers::command_numbers, crate::specs::Messages::command_from, crate::specs::Messages::entry_from))]
 fn of_command(c: CommandFields) -> Entry
     ensures { result ≡ entry_from (not_refused ∷ command_numbers c) }
 {
@@ -142,6 +144,7 @@ fn of_command(c: CommandFields) -> Entry
     }
 }
 
+#[tactic(auto, unfolding(reader::specs::Numbers::notification_numbers, crate::specs::Messages::notification_from, crate::specs::Messages::entry_from))]
 fn of_notification(n: NotificationFields) -> Entry
     ensures { result ≡ entry_from (not_refused ∷ notification_numbers n) }
 {
@@ -185,6 +188,7 @@ fn plain(number: u8, fault: u8, kind: u8, handle: u32, status: u8, count: u8) ->
     }
 }
 
+#[tactic(auto, unfolding(reader::specs::Numbers::entry_numbers, reader::specs::Numbers::response_numbers, crate::specs::Messages::entry_from))]
 fn of_entry(answer: reader::Entry) -> Entry
     ensures { result ≡ entry_from (entry_numbers answer) }
 {
@@ -205,16 +209,15 @@ fn of_entry(answer: reader::Entry) -> Entry
     }
 }
 
-#[unsafe(no_mangle)]
-pub extern "C" fn melorwyth_read_entry(bytes: &[u8], index: usize) -> Entry
+pub fn melorwyth_read_entry(bytes: &[u8], index: usize) -> Entry
     ensures { EntryHands bytes.now index result }
 {
     of_entry(reader::read_entry(bytes, index))
 }
 
 // Where the entry's part stands: `PartStands` of the reader says that the bytes there are the part.
-#[unsafe(no_mangle)]
-pub extern "C" fn melorwyth_entry_part(bytes: &[u8], index: usize) -> Part
+#[tactic(auto, using(crate::proofs::Tellings::part_told))]
+pub fn melorwyth_entry_part(bytes: &[u8], index: usize) -> Part
     ensures { PartHands bytes.now index result }
 {
     let part = reader::part_place(bytes, index);
@@ -225,8 +228,8 @@ pub extern "C" fn melorwyth_entry_part(bytes: &[u8], index: usize) -> Part
 }
 
 // Where the entry's context stands: `ContextStands` of the reader says that the bytes there are the context.
-#[unsafe(no_mangle)]
-pub extern "C" fn melorwyth_entry_context(bytes: &[u8], index: usize) -> Part
+#[tactic(auto, using(crate::proofs::Tellings::context_told))]
+pub fn melorwyth_entry_context(bytes: &[u8], index: usize) -> Part
     ensures { ContextHands bytes.now index result }
 {
     let context = reader::context_place(bytes, index);
@@ -246,6 +249,7 @@ fn put(number: u8, fault: u8, length: usize) -> Written
     }
 }
 
+#[tactic(auto, unfolding(writer::specs::Numbers::written_numbers, crate::specs::Messages::written_of))]
 fn of_written(answer: writer::Written) -> Written
     ensures { result ≡ written_of (written_numbers answer) }
 {
@@ -258,22 +262,22 @@ fn of_written(answer: writer::Written) -> Written
     }
 }
 
-#[unsafe(no_mangle)]
-pub extern "C" fn melorwyth_start(buffer: &mut [u8], kind: u8, entry: &[u8]) -> Written
+#[tactic(auto, using(crate::proofs::Tellings::written_told))]
+pub fn melorwyth_start(buffer: &mut [u8], kind: u8, entry: &[u8]) -> Written
     ensures { StartHands buffer.old kind entry.now result buffer.new }
 {
     of_written(writer::start(buffer, kind, entry))
 }
 
-#[unsafe(no_mangle)]
-pub extern "C" fn melorwyth_append(buffer: &mut [u8], kind: u8, entry: &[u8]) -> Written
+#[tactic(auto, using(crate::proofs::Tellings::written_told))]
+pub fn melorwyth_append(buffer: &mut [u8], kind: u8, entry: &[u8]) -> Written
     ensures { AppendHands buffer.old kind entry.now result buffer.new }
 {
     of_written(writer::append(buffer, kind, entry))
 }
 
-#[unsafe(no_mangle)]
-pub extern "C" fn melorwyth_keep_alive(buffer: &mut [u8], form: u8, value: u32) -> Written
+#[tactic(auto, using(crate::proofs::Tellings::written_told))]
+pub fn melorwyth_keep_alive(buffer: &mut [u8], form: u8, value: u32) -> Written
     ensures { KeepAliveHands buffer.old form value result buffer.new }
 {
     of_written(writer::keep_alive(buffer, form, value))

@@ -1,10 +1,9 @@
 -- The datagram call, case by case. Assumes nothing.
 use Prim.Native.Nat.{ℕ}
 use mathlib.Core.Path.{◌≡◌, sym, ap, ◌∙◌}
-use mathlib.Core.Bool.{Bool, true, false, not}
+use mathlib.Core.Bool.{Bool, true, false}
 use mathlib.Core.List.{List, [], ◌∷◌}
 use native.Mathlib.Omega.{arith}
-use borrow.Author.Tests.{not-true, not-false}
 use borrow.Rule.Slice.PartMut.{put_mid}
 use lib.ListN.{length, take}
 use lib.Seq.{take_all}
@@ -29,31 +28,31 @@ all_cleared area p e q =
 
 -- b is what the call that tests the record gave
 module _ (r : Record) (b : Bool) (tested : b ≡ record_obeys r) where
-  pub datagram_bad : not b ≡ true → (area datagram : List ℕ) → refused bad_record r area [] ≡ datagram_call r area datagram
+  pub datagram_bad : b ≡ false → (area datagram : List ℕ) → refused bad_record r area [] ≡ datagram_call r area datagram
   unfolding datagram_call
-  datagram_bad t area datagram = rw (← tested, not-true b t)
+  datagram_bad t area datagram = rw (← tested, t)
 
   -- s is what the call that tests the area gave
-  module _ (t : not b ≡ false) (area part : List ℕ) (whole : part ≡ area) (s : Bool) (sounded : s ≡ area_sound r.held part) where
+  module _ (t : b ≡ true) (area part : List ℕ) (whole : part ≡ area) (s : Bool) (sounded : s ≡ area_sound r.held part) where
     sound : area_sound r.held area ≡ s
     sound = rw (← whole) (sym sounded)
 
-    pub datagram_area : not s ≡ true → (datagram : List ℕ) → refused bad_area r area [] ≡ datagram_call r area datagram
+    pub datagram_area : s ≡ false → (datagram : List ℕ) → refused bad_area r area [] ≡ datagram_call r area datagram
     unfolding datagram_call
-    datagram_area u datagram = rw (← tested, not-false b t, sound, not-true s u)
+    datagram_area u datagram = rw (← tested, t, sound, u)
 
-    module _ (u : not s ≡ false) where
+    module _ (u : s ≡ true) where
       pub sound_long : length area ≡ area_bytes
-      sound_long = area_long r.held area (sound ∙ not-false s u)
+      sound_long = area_long r.held area (sound ∙ u)
 
       -- m is what the mechanism said of the datagram
-      pub datagram_nothing : (datagram : List ℕ) (m : Bool) → m ≡ resets r.device.mechanism datagram → not m ≡ true
+      pub datagram_nothing : (datagram : List ℕ) (m : Bool) → m ≡ resets r.device.mechanism datagram → m ≡ false
           → outcome (0 ∷ 0 ∷ []) r area [] ≡ datagram_call r area datagram
       unfolding datagram_call
-      datagram_nothing datagram m q v = rw (← tested, not-false b t, sound, not-false s u, ← q, not-true m v)
+      datagram_nothing datagram m q v = rw (← tested, t, sound, u, ← q, v)
 
-      pub datagram_done : (datagram : List ℕ) (m : Bool) → m ≡ resets r.device.mechanism datagram → not m ≡ false → (z : Record) (next : List ℕ)
+      pub datagram_done : (datagram : List ℕ) (m : Bool) → m ≡ resets r.device.mechanism datagram → m ≡ true → (z : Record) (next : List ℕ)
           → z ≡ fresh_state r.device.reading → next ≡ zeros (length area) → outcome (0 ∷ 1 ∷ []) z next [] ≡ datagram_call r area datagram
       unfolding datagram_call restarted
       datagram_done datagram m q v z next x y =
-          rw (← tested, not-false b t, sound, not-false s u, ← q, not-false m v, x, y, sound_long)
+          rw (← tested, t, sound, u, ← q, v, x, y, sound_long)

@@ -1,4 +1,6 @@
 // A datagram that came on the reset mechanism's port: the right one starts the device anew.
+#![tactic(auto)]
+
 ghost use Rattle.reset.specs.Datagram.{DatagramGives};
 ghost use Rattle.reset.specs.Tell.{ResettingsTell};
 
@@ -12,6 +14,7 @@ pub struct Reset {
 }
 
 // The right one starts the device anew, at its last reading; any other changes nothing.
+#[tactic(auto, using(laws::proofs::Parts::rest, crate::proofs::Datagrams::sound_long, crate::proofs::Datagrams::all_cleared, crate::proofs::Datagrams::datagram_bad, crate::proofs::Datagrams::datagram_area, crate::proofs::Datagrams::datagram_nothing, crate::proofs::Datagrams::datagram_done))]
 pub fn datagram(state: Record, area: &mut [u8], datagram: &[u8]) -> Reset
     ensures { DatagramGives state area.old datagram.now result area.new }
 {
@@ -45,6 +48,7 @@ pub fn datagram(state: Record, area: &mut [u8], datagram: &[u8]) -> Reset
 }
 
 // Two results of a datagram that its promise allows are equal.
+#[tactic(auto, using(crate::proofs::Tells::resettings_told))]
 pub fn resettings_tell()
     ensures { ResettingsTell }
 {}

@@ -1,4 +1,6 @@
 // A script: calls written in bytes, made one after another on one record, one area and one output.
+#![tactic(auto)]
+
 ghost use Rattle.std.specs.Prelude.{◌≡◌, ◌≤◌, length};
 ghost use Rattle.stream.specs.Calls.{deliver, ask};
 ghost use Rattle.promise.specs.Rulebook.{opening, closing, ticking, taking, datagram};
@@ -97,6 +99,7 @@ fn deliver(state: Record, area: &mut [u8], n: u8, piece: &[u8], output: &mut [u8
 }
 
 // The kinds that have a piece.
+#[tactic(auto, using(crate::proofs::Stages::is_datagram, crate::proofs::Stages::is_deliver))]
 fn send(state: Record, area: &mut [u8], kind: u8, n: u8, piece: &[u8], output: &mut [u8]) -> Played
     ensures { stage result.state area.new output.new result.answer
         ≡ stage_of (sent_by kind n piece.now output.old) state area.old output.old }
@@ -107,6 +110,7 @@ fn send(state: Record, area: &mut [u8], kind: u8, n: u8, piece: &[u8], output: &
     deliver(state, area, n, piece, output)
 }
 
+#[tactic(auto, using(crate::proofs::Stages::is_open, crate::proofs::Stages::is_close, crate::proofs::Stages::is_tick, crate::proofs::Stages::is_take, crate::proofs::Stages::is_sent))]
 fn call(
     state: Record,
     area: &mut [u8],
@@ -135,6 +139,7 @@ fn call(
 }
 
 // How many bytes the first call of a script has.
+#[tactic(auto, using(crate::proofs::Stages::head_alone, crate::proofs::Stages::all_left, crate::proofs::Stages::as_asked))]
 fn first_size(script: &[u8]) -> usize
     requires { 6 ≤ length script.now }
     ensures { (result ≡ first_size script.now) × (6 ≤ result) × (result ≤ length script.now) }
@@ -150,6 +155,7 @@ fn first_size(script: &[u8]) -> usize
     }
 }
 
+#[tactic(auto, using(crate::proofs::Stages::first_stage))]
 fn first(state: Record, area: &mut [u8], script: &[u8], output: &mut [u8]) -> Played
     requires { 6 ≤ length script.now }
     ensures { stage result.state area.new output.new result.answer
@@ -169,6 +175,7 @@ fn first(state: Record, area: &mut [u8], script: &[u8], output: &mut [u8]) -> Pl
 }
 
 // Makes a script's calls by the code of the endpoint, each state passed on as handed back.
+#[tactic(auto, using(laws::proofs::Parts::rest, crate::proofs::Stages::playing_none, crate::proofs::Stages::playing_more, crate::proofs::Stages::playing_all))]
 pub fn run(state: Record, area: &mut [u8], script: &[u8], output: &mut [u8]) -> Played
     ensures { RunGives state area.old script.now output.old result
         area.new output.new }

@@ -1,4 +1,6 @@
 // Taking one message that waits to be sent: what it does to the device and to a lent output.
+#![tactic(auto)]
+
 ghost use Rattle.std.specs.Prelude.{◌≡◌, true, ◌<◌, ◌≤◌, length};
 ghost use Rattle.answers.specs.Numbers.{taking_numbers};
 ghost use Rattle.subscription.specs.State.{is_waiting};
@@ -30,6 +32,7 @@ struct Sending {
 }
 
 // The waiting entry at a place gets its notification.
+#[tactic(auto, using(laws::proofs::Tables::length_mapped, crate::proofs::Takes::entry_read, crate::proofs::Takes::emitter_mute, crate::proofs::Takes::context_low, crate::proofs::Takes::entry_place, crate::proofs::Takes::sending_told, crate::proofs::Takes::notified_is))]
 fn notified(device: Device, output: &mut [u8], at: usize) -> Sending
     requires { (device_obeys device ≡ true) × (at < 32) × (is_waiting (subscription_at device at) ≡ true)
         × (least_output ≤ length output.old) }
@@ -55,6 +58,7 @@ fn notified(device: Device, output: &mut [u8], at: usize) -> Sending
 }
 
 // Connection n gets a keep-alive.
+#[tactic(auto, using(laws::proofs::Tables::length_mapped, crate::proofs::Takes::connection_obeys_lem, crate::proofs::Takes::sending_reminded, crate::proofs::Takes::reminded_is))]
 fn reminded(device: Device, output: &mut [u8], n: usize) -> Sending
     requires { (device_obeys device ≡ true) × (n < 8) × (least_output ≤ length output.old) }
     ensures { dispatch (taking_numbers result.answer) (sent_in device result) output.new
@@ -73,6 +77,7 @@ fn reminded(device: Device, output: &mut [u8], n: usize) -> Sending
 }
 
 // The lowest entry that waits, else the lowest connection that is due, else nothing.
+#[tactic(auto, using(laws::proofs::Tables::length_mapped, crate::proofs::Takes::found_waits, crate::proofs::Takes::sending_nothing, crate::proofs::Takes::take_notified, crate::proofs::Takes::take_reminded, crate::proofs::Takes::take_nothing))]
 fn chosen(device: Device, output: &mut [u8]) -> Sending
     requires { (device_obeys device ≡ true) × (least_output ≤ length output.old) }
     ensures { dispatch (taking_numbers result.answer) (sent_in device result) output.new
@@ -98,6 +103,7 @@ fn chosen(device: Device, output: &mut [u8]) -> Sending
 }
 
 // One message, and its connection.
+#[tactic(auto, using(crate::proofs::Takes::sending_put, crate::proofs::Takes::put_in, crate::proofs::Takes::put_past))]
 pub fn take(device: Device, output: &mut [u8]) -> Taken
     requires { (device_obeys device ≡ true) × (least_output ≤ length output.old) }
     ensures { dispatch (taking_numbers result.answer) result.device output.new ≡ dispatched device output.old }
