@@ -1,4 +1,6 @@
 // How often the host ticks makes no difference, as contracts of functions that do nothing.
+#![tactic(auto)]
+
 ghost use Rattle.clock.specs.Clock.{SlowClock};
 ghost use Rattle.clock.specs.Hosts.{TwoHosts};
 

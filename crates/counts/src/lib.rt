@@ -1,4 +1,6 @@
 // A count goes with its bytes, and a context stands within its entry: theorems, as contracts of functions that do nothing.
+#![tactic(auto)]
+
 ghost use Rattle.counts.specs.Refused.{CountWithoutBytes, ContextRefused};
 ghost use Rattle.counts.specs.Told.{NoneTold, ContextTold};
 ghost use Rattle.counts.specs.Worked.{CountsRead};

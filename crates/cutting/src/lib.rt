@@ -1,4 +1,6 @@
 // How a connection's bytes are cut makes no difference to a host's loop: theorems, as the contracts of functions that do nothing.
+#![tactic(auto)]
+
 ghost use Rattle.cutting.specs.Cutting.{CuttingDoesNotMatter};
 ghost use Rattle.cutting.specs.Taken.{AllIsTaken};
 

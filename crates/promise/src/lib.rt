@@ -1,4 +1,6 @@
 // The theorems of the product, as contracts of functions that do nothing: each has its line in the verdict.
+#![tactic(auto)]
+
 ghost use Rattle.promise.specs.Kept.{CallsKeep};
 ghost use Rattle.promise.specs.Whole.{DemandThree};
 ghost use Rattle.promise.specs.Examples.{ExamplesWorked};

@@ -1,4 +1,6 @@
 // What the device sends is read: theorems, as contracts of functions that do nothing.
+#![tactic(auto)]
+
 ghost use Rattle.sent.specs.Sent.{SentIsRead, NotifiedIsRead};
 ghost use Rattle.sent.specs.Longest.{LongestReached};
 

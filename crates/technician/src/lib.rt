@@ -1,4 +1,6 @@
 // The technician's question, as contracts of functions that do nothing.
+#![tactic(auto)]
+
 ghost use Rattle.technician.specs.Technician.{TechnicianLetIn};
 ghost use Rattle.technician.specs.Evening.{EveningInAHall};
 
