@@ -1,20 +1,22 @@
 // R83. The examples that are run, by the calls of the endpoint, the reader and the writer: a line for each.
+#![tactic(auto)]
+
 ghost use Rattle.std.specs.Prelude.{◌≡◌, length};
 ghost use Rattle.area.specs.Area.{area_bytes, part_bytes};
 
 use answers::{Delivery, Ticking};
 use endpoint::Record;
-use libc::STDOUT_FILENO;
 use reader::Reading;
+use std::io::Write;
 use writer::Written;
 
 // What is printed for an answer that no example has.
 const OTHER: u64 = 999999;
 
-fn print_line(text: &[u8], n: u64) {
-    io::write_all(STDOUT_FILENO, text);
-    io::print_decimal(STDOUT_FILENO, n);
-    io::write_all(STDOUT_FILENO, b"\n");
+fn print_line<W: Write>(to: &mut W, text: &[u8], n: u64) {
+    let _ = to.write_all(text);
+    let _ = write!(to, "{n}");
+    let _ = to.write_all(b"\n");
 }
 
 fn area_space() -> [u8; area::AREA]
@@ -108,25 +110,26 @@ fn reply_to(s: &[u8]) -> u64 {
     }
 }
 
-fn sizes() {
+fn sizes<W: Write>(to: &mut W) {
     let mut space = message_space();
     let e = longest_command();
     writer::start(&mut space, 1, &e);
-    print_line(b"pduSize 2048: read, bytes ", read_as(&space));
+    print_line(to, b"pduSize 2048: read, bytes ", read_as(&space));
     space[6] = 1;
-    print_line(b"pduSize 2049: fault ", read_as(&space));
+    print_line(to, b"pduSize 2049: fault ", read_as(&space));
 }
 
-fn least_commands() {
+fn least_commands<W: Write>(to: &mut W) {
     let mut space = message_space();
     let n = fill(&mut space);
-    print_line(b"least commands that fit: ", n);
-    print_line(b"longest reply, bytes ", reply_to(&space));
+    print_line(to, b"least commands that fit: ", n);
+    print_line(to, b"longest reply, bytes ", reply_to(&space));
 }
 
-fn main() {
-    print_line(b"heartbeat 2 s, silence 5999: closed ", closed_at(5999));
-    print_line(b"heartbeat 2 s, silence 6000: closed ", closed_at(6000));
-    sizes();
-    least_commands();
+fn main(rt: HostRuntime) {
+    let to = &mut rt.stdout();
+    print_line(to, b"heartbeat 2 s, silence 5999: closed ", closed_at(5999));
+    print_line(to, b"heartbeat 2 s, silence 6000: closed ", closed_at(6000));
+    sizes(to);
+    least_commands(to);
 }

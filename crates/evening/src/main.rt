@@ -1,9 +1,12 @@
 // An evening in a hall, through the calls of the endpoint: two tablets (connections 0 and 1), a panel (2), and channel 5, object 4101.
+#![tactic(auto)]
+
 ghost use Rattle.std.specs.Prelude.{◌≡◌, length};
 ghost use Rattle.area.specs.Area.{area_bytes};
 
 use endpoint::Record;
 use hall::{PANEL, TABLET_0, TABLET_1};
+use std::io::Write;
 
 // Lock of 4101.
 const LOCK: [u8; 27] = [
@@ -22,9 +25,10 @@ fn area_space() -> [u8; area::AREA]
     [0; area::AREA]
 }
 
-fn lock(state: Record, area: &mut [u8], out: &mut [u8], n: u8) -> Record {
+fn lock<W: Write>(to: &mut W, state: Record, area: &mut [u8], out: &mut [u8], n: u8) -> Record {
     let piece = LOCK;
     hall::command(
+        to,
         state,
         area,
         out,
@@ -34,23 +38,44 @@ fn lock(state: Record, area: &mut [u8], out: &mut [u8], n: u8) -> Record {
     )
 }
 
-fn set(state: Record, area: &mut [u8], out: &mut [u8], n: u8, value: u8, deed: &[u8]) -> Record {
+fn set<W: Write>(
+    to: &mut W,
+    state: Record,
+    area: &mut [u8],
+    out: &mut [u8],
+    n: u8,
+    value: u8,
+    deed: &[u8],
+) -> Record {
     let piece = [
         0x3Bu8, 0, 1, 0, 0, 0, 0x1B, 1, 0, 1, 0, 0, 0, 0x12, 0, 0, 0, 8, 0, 0, 0x10, 0x05, 0, 4, 0,
         2, 1, value,
     ];
-    hall::command(state, area, out, n, &piece, deed)
+    hall::command(to, state, area, out, n, &piece, deed)
 }
 
-fn subscribe(state: Record, area: &mut [u8], out: &mut [u8], n: u8) -> Record {
+fn subscribe<W: Write>(
+    to: &mut W,
+    state: Record,
+    area: &mut [u8],
+    out: &mut [u8],
+    n: u8,
+) -> Record {
     let piece = SUBSCRIBE;
-    hall::command(state, area, out, n, &piece, b" subscribes to channel 5")
+    hall::command(to, state, area, out, n, &piece, b" subscribes to channel 5")
 }
 
 // The first bytes of a lock command.
-fn half_message(state: Record, area: &mut [u8], out: &mut [u8], n: u8) -> Record {
+fn half_message<W: Write>(
+    to: &mut W,
+    state: Record,
+    area: &mut [u8],
+    out: &mut [u8],
+    n: u8,
+) -> Record {
     let piece = [0x3Bu8, 0, 1, 0, 0, 0, 0x1A, 1, 0, 1, 0, 0, 0];
     hall::command(
+        to,
         state,
         area,
         out,
@@ -60,25 +85,32 @@ fn half_message(state: Record, area: &mut [u8], out: &mut [u8], n: u8) -> Record
     )
 }
 
-fn faulty_byte(state: Record, area: &mut [u8], out: &mut [u8], n: u8) -> Record {
+fn faulty_byte<W: Write>(
+    to: &mut W,
+    state: Record,
+    area: &mut [u8],
+    out: &mut [u8],
+    n: u8,
+) -> Record {
     let piece = [0u8];
-    hall::command(state, area, out, n, &piece, b" sends a faulty byte")
+    hall::command(to, state, area, out, n, &piece, b" sends a faulty byte")
 }
 
-fn connect(state: Record) -> Record {
-    let first = hall::open(state, b"tablet 0");
-    let second = hall::open(first, b"tablet 1");
-    hall::open(second, b"the panel")
+fn connect<W: Write>(to: &mut W, state: Record) -> Record {
+    let first = hall::open(to, state, b"tablet 0");
+    let second = hall::open(to, first, b"tablet 1");
+    hall::open(to, second, b"the panel")
 }
 
-fn tablet_0_locks(state: Record, area: &mut [u8], out: &mut [u8]) -> Record {
-    let beating = hall::heartbeat(state, area, out, TABLET_0);
-    lock(beating, area, out, TABLET_0)
+fn tablet_0_locks<W: Write>(to: &mut W, state: Record, area: &mut [u8], out: &mut [u8]) -> Record {
+    let beating = hall::heartbeat(to, state, area, out, TABLET_0);
+    lock(to, beating, area, out, TABLET_0)
 }
 
-fn tablet_0_mutes(state: Record, area: &mut [u8], out: &mut [u8]) -> Record {
-    let subscribed = subscribe(state, area, out, PANEL);
+fn tablet_0_mutes<W: Write>(to: &mut W, state: Record, area: &mut [u8], out: &mut [u8]) -> Record {
+    let subscribed = subscribe(to, state, area, out, PANEL);
     let muted = set(
+        to,
         subscribed,
         area,
         out,
@@ -86,23 +118,29 @@ fn tablet_0_mutes(state: Record, area: &mut [u8], out: &mut [u8]) -> Record {
         objects::MUTED,
         b" mutes channel 5",
     );
-    hall::take(muted, out)
+    hall::take(to, muted, out)
 }
 
-fn tablet_0_dies(state: Record, area: &mut [u8], out: &mut [u8]) -> Record {
-    let refused = lock(state, area, out, TABLET_1);
-    half_message(refused, area, out, TABLET_0)
+fn tablet_0_dies<W: Write>(to: &mut W, state: Record, area: &mut [u8], out: &mut [u8]) -> Record {
+    let refused = lock(to, state, area, out, TABLET_1);
+    half_message(to, refused, area, out, TABLET_0)
 }
 
-fn silence(state: Record, area: &mut [u8], out: &mut [u8]) -> Record {
-    let waited = hall::tick(state, area, 89999);
-    let refused = lock(waited, area, out, TABLET_1);
-    hall::tick(refused, area, 90000)
+fn silence<W: Write>(to: &mut W, state: Record, area: &mut [u8], out: &mut [u8]) -> Record {
+    let waited = hall::tick(to, state, area, 89999);
+    let refused = lock(to, waited, area, out, TABLET_1);
+    hall::tick(to, refused, area, 90000)
 }
 
-fn tablet_1_unmutes(state: Record, area: &mut [u8], out: &mut [u8]) -> Record {
-    let locked = lock(state, area, out, TABLET_1);
+fn tablet_1_unmutes<W: Write>(
+    to: &mut W,
+    state: Record,
+    area: &mut [u8],
+    out: &mut [u8],
+) -> Record {
+    let locked = lock(to, state, area, out, TABLET_1);
     let unmuted = set(
+        to,
         locked,
         area,
         out,
@@ -110,36 +148,37 @@ fn tablet_1_unmutes(state: Record, area: &mut [u8], out: &mut [u8]) -> Record {
         objects::UNMUTED,
         b" unmutes channel 5",
     );
-    hall::take(unmuted, out)
+    hall::take(to, unmuted, out)
 }
 
-fn evening_ends(state: Record, area: &mut [u8], out: &mut [u8]) {
-    let faulted = faulty_byte(state, area, out, PANEL);
-    let opened = hall::open(faulted, b"a new controller");
-    hall::close(opened, area, TABLET_1);
+fn evening_ends<W: Write>(to: &mut W, state: Record, area: &mut [u8], out: &mut [u8]) {
+    let faulted = faulty_byte(to, state, area, out, PANEL);
+    let opened = hall::open(to, faulted, b"a new controller");
+    hall::close(to, opened, area, TABLET_1);
 }
 
 // The first part: tablet 0 locks channel 5, mutes it and dies.
-fn first_part(area: &mut [u8], out: &mut [u8]) -> Record {
-    let connected = connect(Record::fresh(0));
-    let locked = tablet_0_locks(connected, area, out);
-    let muted = tablet_0_mutes(locked, area, out);
-    tablet_0_dies(muted, area, out)
+fn first_part<W: Write>(to: &mut W, area: &mut [u8], out: &mut [u8]) -> Record {
+    let connected = connect(to, Record::fresh(0));
+    let locked = tablet_0_locks(to, connected, area, out);
+    let muted = tablet_0_mutes(to, locked, area, out);
+    tablet_0_dies(to, muted, area, out)
 }
 
 // The second: its connection is closed, and tablet 1 takes over.
-fn second_part(state: Record, area: &mut [u8], out: &mut [u8]) {
-    let freed = silence(state, area, out);
-    let unmuted = tablet_1_unmutes(freed, area, out);
-    evening_ends(unmuted, area, out);
+fn second_part<W: Write>(to: &mut W, state: Record, area: &mut [u8], out: &mut [u8]) {
+    let freed = silence(to, state, area, out);
+    let unmuted = tablet_1_unmutes(to, freed, area, out);
+    evening_ends(to, unmuted, area, out);
 }
 
-fn main() {
+fn main(rt: HostRuntime) {
     let mut space = area_space();
     let mut text = io::buffer();
     let area: &mut [u8] = &mut space;
     let out: &mut [u8] = &mut text;
-    hall::clear(area);
-    let halved = first_part(area, out);
-    second_part(halved, area, out);
+    let to = &mut rt.stdout();
+    hall::clear(to, area);
+    let halved = first_part(to, area, out);
+    second_part(to, halved, area, out);
 }

@@ -1,46 +1,51 @@
 // The listing's loop: a piece is read and listed, and its text handed over to be written, until the last line.
 //
 // What read and write do is outside every contract. So the loop runs over a tape too: bytes in memory that are read piece by piece as
-// a descriptor is, and room there for the text. What is proved of the loop over a tape names every byte read and handed over.
+// a reader is, and room there for the text. What is proved of the loop over a tape names every byte read and handed over.
+#![tactic(auto)]
+
 ghost use Rattle.std.specs.Prelude.{◌≡◌, true, ◌+◌, ◌≤◌, ◌<◌, length, take, drop};
 ghost use Rattle.std.proofs.lemmas.List.Edits.{sets};
 ghost use Rattle.turns.specs.Ends.{ListingEnds, DescriptorListed, TapeListed};
-ghost use Rattle.turns.specs.Scaffold.{piece_bytes, ReadsMore, HandsOver, TurnReady};
+ghost use Rattle.turns.specs.Scaffold.{piece_bytes, text_bytes, ReadsMore, HandsOver, TurnReady};
 ghost use Rattle.turns.specs.Turns.{Turned};
 
-use libc::{STDERR_FILENO, STDIN_FILENO, STDOUT_FILENO};
+use std::io;
+use std::io::{Read, Write};
 
-// The input's buffer. A message has at least 10 bytes and a line at most 40, so io's large buffer has room for the lines of a piece.
+// The input's buffer. A message has at least 10 bytes and a line at most 40, so the output's buffer has room for the lines of a piece.
 pub const PIECE: usize = 16000;
+
+// The output's buffer.
+const TEXT: usize = 65536;
 
 // Below it every offset of a piece fits 64 bits.
 pub const GREATEST_OFFSET: u64 = 18446744073709500000;
 
 // Where the input is read, and where its text goes.
-#[derive(Drop)]
+#[derive(Clone, Copy)]
 pub struct Source {
-    // a tape is read and the text kept; else the descriptor is read, and the text goes to standard output
+    // a tape is read and the text kept; else the reader is read, and the text goes to the writer
     pub taped: bool,
-    pub fd: i32,
     // a read from the tape takes at most so many bytes; 0: as many as there is room for
     pub most: usize,
 }
 
-#[derive(Drop)]
+#[derive(Clone, Copy)]
 struct Came {
     // the bytes read: none where the input ends or cannot be read
     count: usize,
     failed: bool,
 }
 
-#[derive(Drop)]
+#[derive(Clone, Copy)]
 struct Wrote {
     // the bytes of text that are kept
     handed: usize,
     failed: bool,
 }
 
-#[derive(Drop)]
+#[derive(Clone, Copy)]
 pub struct State {
     // the offset of the first byte held
     pub offset: u64,
@@ -86,7 +91,16 @@ fn read_tape(tape: &[u8], at: usize, most: usize, buf: &mut [u8], held: usize) -
 }
 
 // Reads behind the bytes held, the first of which stands at the offset.
-fn read_more(source: Source, tape: &[u8], offset: u64, buf: &mut [u8], held: usize) -> Came
+#[tactic(auto, using(crate::proofs::Worlds::reads_tape, crate::proofs::Worlds::reads_in))]
+fn read_more<R: Read, E: Write>(
+    source: Source,
+    reader: &mut R,
+    errors: &mut E,
+    tape: &[u8],
+    offset: u64,
+    buf: &mut [u8],
+    held: usize,
+) -> Came
     requires { (held < length buf.old) × (offset + held < 18446744073709551616) }
     ensures { ReadsMore source.taped tape.now (offset + held) held buf.old buf.new result }
 {
@@ -97,21 +111,23 @@ fn read_more(source: Source, tape: &[u8], offset: u64, buf: &mut [u8], held: usi
             failed: false,
         };
     }
-    let got = libc::read(source.fd, &mut buf[held..]);
-    if got < 0 {
-        io::write_all(STDERR_FILENO, b"listing: the input cannot be read\n");
-        return Came {
-            count: 0,
-            failed: true,
-        };
-    }
-    Came {
-        count: io::count(got, &buf[held..]),
-        failed: false,
+    match reader.read(&mut buf[held..]) {
+        Ok(count) => Came {
+            count,
+            failed: false,
+        },
+        Err(_) => {
+            let _ = errors.write_all(b"listing: the input cannot be read\n");
+            Came {
+                count: 0,
+                failed: true,
+            }
+        }
     }
 }
 
 // Keeps s behind the text that was handed over before, if there is room.
+#[tactic(auto, using(crate::proofs::Worlds::kept_none, crate::proofs::Worlds::kept_all))]
 fn keep(s: &[u8], text: &mut [u8], handed: usize) -> Wrote
     requires { handed ≤ length text.old }
     ensures { HandsOver true s.now text.old handed text.new result }
@@ -130,16 +146,24 @@ fn keep(s: &[u8], text: &mut [u8], handed: usize) -> Wrote
 }
 
 // Hands s over to be written, or kept behind the text.
-fn hand_over(source: Source, s: &[u8], text: &mut [u8], handed: usize) -> Wrote
+#[tactic(auto, using(crate::proofs::Worlds::hands_out))]
+fn hand_over<W: Write, E: Write>(
+    source: Source,
+    writer: &mut W,
+    errors: &mut E,
+    s: &[u8],
+    text: &mut [u8],
+    handed: usize,
+) -> Wrote
     requires { handed ≤ length text.old }
     ensures { HandsOver source.taped s.now text.old handed text.new result }
 {
     if source.taped {
         return keep(s, text, handed);
     }
-    let is_written = io::write_all(STDOUT_FILENO, s);
+    let is_written = writer.write_all(s).is_ok();
     if !is_written {
-        io::write_all(STDERR_FILENO, b"listing: the output cannot be written\n");
+        let _ = errors.write_all(b"listing: the output cannot be written\n");
     }
     Wrote {
         handed,
@@ -148,8 +172,12 @@ fn hand_over(source: Source, s: &[u8], text: &mut [u8], handed: usize) -> Wrote
 }
 
 // Reads once, lists what came behind the bytes held, hands the text over, and keeps what is left.
-fn turn(
+#[tactic(auto, using(crate::proofs::Turnings::turned))]
+fn turn<R: Read, W: Write, E: Write>(
     source: Source,
+    reader: &mut R,
+    writer: &mut W,
+    errors: &mut E,
     tape: &[u8],
     input: &mut [u8],
     out: &mut [u8],
@@ -162,13 +190,13 @@ fn turn(
     ensures { Turned source.taped tape.now text.old text.new offset
         (take held input.old) handed input.new out.new result }
 {
-    let came = read_more(source, tape, offset, input, held);
+    let came = read_more(source, reader, errors, tape, offset, input, held);
     let got = came.count;
     let end = held + got;
     let done = lister::list_piece(&input[..end], offset, out, got == 0);
     let put = done.put;
     let used = done.used;
-    let wrote = hand_over(source, &out[..put], text, handed);
+    let wrote = hand_over(source, writer, errors, &out[..put], text, handed);
     lister::move_down(input, used, end - used);
     State {
         offset: offset + used as u64,
@@ -185,20 +213,36 @@ fn input_buffer() -> [u8; PIECE]
     [0; PIECE]
 }
 
+fn text_buffer() -> [u8; TEXT]
+    ensures { text_bytes ≡ length result }
+{
+    [0; TEXT]
+}
+
 // Lists what is read until the last line is handed over, a write fails, or the offset comes to its limit.
 // Each turn but the last reads a byte or more, so offset and bytes held grow to their limit.
-pub fn list_from(source: Source, tape: &[u8], text: &mut [u8]) -> State
+#[tactic(auto, using(crate::proofs::Turnings::goes_on, crate::proofs::Runs::running_none, crate::proofs::Runs::running_more, crate::proofs::Runs::running_last, crate::proofs::Runs::running_limit))]
+pub fn list_from<R: Read, W: Write, E: Write>(
+    source: Source,
+    reader: &mut R,
+    writer: &mut W,
+    errors: &mut E,
+    tape: &[u8],
+    text: &mut [u8],
+) -> State
     ensures { ListingEnds source.taped tape.now text.new result }
 {
     let mut space = input_buffer();
-    let mut lines = io::large_buffer();
+    let mut lines = text_buffer();
     let input: &mut [u8] = &mut space;
     let out: &mut [u8] = &mut lines;
     let mut offset = 0;
     let mut held = 0;
     let mut handed = 0;
     while offset < GREATEST_OFFSET {
-        let t = turn(source, tape, input, out, text, offset, held, handed);
+        let t = turn(
+            source, reader, writer, errors, tape, input, out, text, offset, held, handed,
+        );
         if t.over {
             return t;
         }
@@ -215,33 +259,38 @@ pub fn list_from(source: Source, tape: &[u8], text: &mut [u8]) -> State
     }
 }
 
-// Lists what is read from fd on standard output. The answer is false where a read or a write failed, or the offset came to its limit.
-pub fn list(fd: i32) -> bool
+// Lists what the reader gives on the writer. The answer is false where a read or a write failed, or the offset came to its limit.
+#[tactic(auto, using(crate::proofs::Runs::untaped))]
+pub fn list<R: Read, W: Write, E: Write>(reader: &mut R, writer: &mut W, errors: &mut E) -> bool
     ensures { DescriptorListed result }
 {
     let source = Source {
         taped: false,
-        fd,
         most: 0,
     };
     let mut none: [u8; 1] = [0];
-    let t = list_from(source, b"", &mut none);
+    let t = list_from(source, reader, writer, errors, b"", &mut none);
     t.over & !t.failed
 }
 
 // Lists a tape that is read in pieces of at most so many bytes, and answers how many bytes of text it kept.
+#[tactic(auto, using(crate::proofs::Runs::tape_listed))]
 pub fn list_tape(tape: &[u8], most: usize, text: &mut [u8]) -> usize
     ensures { TapeListed tape.now text.new result }
 {
-    let source = Source {
-        taped: true,
-        fd: STDIN_FILENO,
-        most,
-    };
-    list_from(source, tape, text).handed
+    let source = Source { taped: true, most };
+    list_from(
+        source,
+        &mut io::empty(),
+        &mut io::sink(),
+        &mut io::sink(),
+        tape,
+        text,
+    )
+    .handed
 }
 
-// Lists standard input.
-pub fn run() {
-    list(STDIN_FILENO);
+// Lists standard input on standard output.
+pub fn run(rt: &HostRuntime) {
+    list(&mut rt.stdin(), &mut rt.stdout(), &mut rt.stderr());
 }
