@@ -32,19 +32,19 @@ mod tests {
 
     #[test]
     fn a_name_twice_is_found() {
-        let a = Text::new("crates/a/specs/A.antt", "abbrev pub runOf : ℕ\n");
+        let a = Text::new("crates/a/specs/A.antt", "abbrev pub run_of : ℕ\n");
         let b = Text::new(
             "crates/b/specs/B.antt",
-            "pub data X : Type 0 where\n  runOf : X\n",
+            "pub data X : Type 0 where\n  run_of : X\n",
         );
         let c = Text::new(
             "crates/c/specs/C.antt",
-            "pub record Y : Type 0 where\n  pub runOf : ℕ\n",
+            "pub record Y : Type 0 where\n  pub run_of : ℕ\n",
         );
         assert_eq!(check(&[a, b]).len(), 1);
         assert_eq!(
             check(&[
-                Text::new("crates/a/specs/A.antt", "abbrev pub runOf : ℕ\n"),
+                Text::new("crates/a/specs/A.antt", "abbrev pub run_of : ℕ\n"),
                 c
             ]),
             []

@@ -1,5 +1,6 @@
 //! What the pages name is there: files, edits and crates. The papers behind the rules are named in the rule book alone.
 use crate::tree::{Finding, Text, finding};
+use std::collections::BTreeMap;
 use std::path::Path;
 
 /// The words between backquotes of a line.
@@ -62,43 +63,70 @@ pub fn check_edits_named(edits: &[Text], promises: &Text) -> Vec<Finding> {
         .collect()
 }
 
-/// What an edit replaces stands once in its file.
-pub fn check_edits(root: &Path, edits: &[Text]) -> Vec<Finding> {
+/// The pairs of an edit, old text and new, each with the file that it stands in; an old text with no new one has none.
+fn pairs(edit: &Text) -> Vec<(&str, &str, Option<&str>)> {
+    let mut file = "";
     let mut found = Vec::new();
-    for edit in edits {
-        let value = |key: &str| {
-            edit.lines
-                .iter()
-                .find_map(|l| l.strip_prefix(key))
-                .unwrap_or("")
-        };
-        let path = root
-            .join("crates")
-            .join(edit.crate_name())
-            .join(value("file: "));
-        let text = std::fs::read_to_string(path).unwrap_or_default();
-        let times = text.matches(value("old: ")).count();
-        if value("old: ").is_empty() || times != 1 {
-            found.push(finding(
-                &edit.path,
-                1,
-                format!(
-                    "what it replaces stands {times} times in {}",
-                    value("file: ")
-                ),
-            ));
+    for line in &edit.lines {
+        if let Some(path) = line.strip_prefix("file: ") {
+            file = path;
+        } else if let Some(old) = line.strip_prefix("old: ") {
+            found.push((file, old, None));
+        } else if let Some(new) = line.strip_prefix("new:") {
+            match found.last_mut() {
+                Some(pair) if pair.2.is_none() => {
+                    pair.2 = Some(new.strip_prefix(' ').unwrap_or(new))
+                }
+                _ => found.push((file, "", Some(new))),
+            }
         }
     }
     found
 }
 
-/// `crates.txt` lists every folder of `crates/`, and no other.
+/// What an edit replaces stands once in its file; each further pair of lines applies to what the earlier ones made.
+pub fn check_edits(root: &Path, edits: &[Text]) -> Vec<Finding> {
+    let mut found = Vec::new();
+    for edit in edits {
+        let mut texts = BTreeMap::new();
+        let pairs = pairs(edit);
+        if pairs.is_empty() {
+            found.push(finding(&edit.path, 1, "it replaces nothing".to_string()));
+        }
+        for (file, old, new) in pairs {
+            let path = root.join("crates").join(edit.crate_name()).join(file);
+            let text = texts
+                .entry(file)
+                .or_insert_with(|| std::fs::read_to_string(path).unwrap_or_default());
+            let times = if old.is_empty() {
+                0
+            } else {
+                text.matches(old).count()
+            };
+            if times != 1 {
+                let what = format!("what it replaces stands {times} times in {file}");
+                found.push(finding(&edit.path, 1, what));
+            }
+            match new {
+                Some(new) if times == 1 => *text = text.replacen(old, new, 1),
+                Some(_) => {}
+                None => {
+                    let what = format!("no new text stands for `{old}`");
+                    found.push(finding(&edit.path, 1, what));
+                }
+            }
+        }
+    }
+    found
+}
+
+/// `crates.txt` lists every folder of `crates/`, and no other. What else is said of a crate stands behind its name.
 pub fn check_crates(list: &Text, folders: &[String]) -> Vec<Finding> {
     let listed: Vec<&str> = list
         .lines
         .iter()
         .filter(|l| !l.starts_with('#'))
-        .filter_map(|l| Some(l.split_once(':')?.0.trim()))
+        .filter_map(|l| l.split_once(':')?.0.split_whitespace().next())
         .collect();
     let missing = folders
         .iter()
@@ -167,10 +195,37 @@ mod tests {
     }
 
     #[test]
+    fn each_pair_of_an_edit_stands_once() {
+        let root = std::env::temp_dir().join(format!("house-edits-{}", std::process::id()));
+        std::fs::create_dir_all(root.join("crates/a/src")).unwrap();
+        std::fs::write(root.join("crates/a/src/lib.rt"), "x y y").unwrap();
+        std::fs::write(root.join("crates/a/src/more.rt"), "v").unwrap();
+        let found = |pairs: &str| {
+            let text = format!("# why\nfile: src/lib.rt\n{pairs}");
+            let edit = Text::new("crates/a/must-fail/late.edit", &text);
+            check_edits(&root, &[edit]).len()
+        };
+        let counts = [
+            found("old: x\nnew: z"),
+            found("old: y\nnew: z"),
+            found("old: x\nnew: z\nold: z\nnew: x"),
+            found("old: x\nnew: z\nold: x\nnew: z"),
+            found("old: x\nnew: z\nfile: src/more.rt\nold: v\nnew:"),
+            found("old: x\nnew: z\nfile: src/more.rt\nold: x\nnew: z"),
+            found("old: x"),
+            found("new: x"),
+            found(""),
+        ];
+        std::fs::remove_dir_all(&root).unwrap();
+        assert_eq!(counts, [0, 1, 0, 1, 0, 1, 1, 1, 1]);
+    }
+
+    #[test]
     fn the_list_of_crates_is_exact() {
-        let list = Text::new("crates.txt", "# c\na: b\nb:");
+        let list = Text::new("crates.txt", "# c\na staticlib: b\nb:");
         assert_eq!(check_crates(&list, &["a".into(), "b".into()]), []);
         assert_eq!(check_crates(&list, &["a".into(), "c".into()]).len(), 2);
+        assert_eq!(check_crates(&list, &["a".into()]).len(), 1);
     }
 
     #[test]

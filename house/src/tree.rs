@@ -48,12 +48,16 @@ pub fn finding(path: &str, line: usize, what: String) -> Finding {
     }
 }
 
+/// What the kit makes of a crate stands in its `out/` and is nobody's text.
 fn walk(folder: &Path, found: &mut Vec<PathBuf>) {
     let Ok(entries) = fs::read_dir(folder) else {
         return;
     };
     for entry in entries.flatten() {
         let path = entry.path();
+        if path.is_dir() && path.ends_with("out") {
+            continue;
+        }
         if path.is_dir() {
             walk(&path, found);
         } else {
@@ -103,21 +107,57 @@ pub fn has_word(text: &str, name: &str) -> bool {
     })
 }
 
+/// What can stand beside an operator: nothing, a space, a bracket, or the holes of its name.
+fn is_beside(c: Option<char>) -> bool {
+    c.is_none_or(|c| c.is_whitespace() || "()[]{},;◌".contains(c))
+}
+
+/// The operator stands in the text as a word of its own.
+pub fn has_operator(text: &str, operator: &str) -> bool {
+    text.match_indices(operator).any(|(at, _)| {
+        is_beside(text[..at].chars().next_back())
+            && is_beside(text[at + operator.len()..].chars().next())
+    })
+}
+
 #[cfg(test)]
 mod tests {
     use super::*;
 
     #[test]
     fn a_word_is_whole() {
-        assert!(has_word("f (runOf d) n", "runOf"));
-        assert!(!has_word("f (runOfIt d) n", "runOf"));
-        assert!(!has_word("f re-runOf n", "runOf"));
-        assert!(has_word("d .runOf", "runOf"));
+        assert!(has_word("f (run_of d) n", "run_of"));
+        assert!(!has_word("f (run_of_it d) n", "run_of"));
+        assert!(!has_word("f re-run_of n", "run_of"));
+        assert!(has_word("d.run_of", "run_of"));
+    }
+
+    #[test]
+    fn an_operator_is_whole() {
+        assert!(has_operator("a + b", "+"));
+        assert!(has_operator("ap (◌+◌) p", "+"));
+        assert!(!has_operator("a ++ b", "+"));
+        assert!(!has_operator("length-drop", "-"));
+        assert!(!has_operator("Vec<u8>", "<"));
+        assert!(!has_operator("a → b", "-"));
+    }
+
+    #[test]
+    fn what_the_kit_makes_is_no_text() {
+        let root = std::env::temp_dir().join(format!("house-{}", std::process::id()));
+        for folder in ["crates/a/src", "crates/a/out/rlib/src"] {
+            fs::create_dir_all(root.join(folder)).unwrap();
+            fs::write(root.join(folder).join("lib.rt"), "//").unwrap();
+        }
+        let found = texts(&root, "crates", &[".rt"]);
+        fs::remove_dir_all(&root).unwrap();
+        let paths: Vec<&str> = found.iter().map(|t| t.path.as_str()).collect();
+        assert_eq!(paths, ["crates/a/src/lib.rt"]);
     }
 
     #[test]
     fn comments_are_no_code() {
-        assert_eq!(code("a = b -- runOf"), "a = b ");
-        assert_eq!(code("// runOf"), "");
+        assert_eq!(code("a = b -- run_of"), "a = b ");
+        assert_eq!(code("// run_of"), "");
     }
 }
