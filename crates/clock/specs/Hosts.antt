@@ -71,7 +71,8 @@ pub record TwoHosts : Type 0 where
       → (connection_then r area p k n).live ≡ true → (connection_then r area p k n).due ≡ leb H (q + k * p)
   -- so one that falls due at the fast host is due by the slow host's next tick
   pub due_by : (r : Record) (area : List ℕ) (n H s q j k : ℕ) → Tablet r area n H s → Paced r.device n H q false → j ≤ 100 * k
-      → (connection_then r area 1 j n).due ≡ true → (connection_then r area 100 k n).live ≡ true → (connection_then r area 100 k n).due ≡ true
+      → (connection_then r area 1 j n).due ≡ true → (connection_then r area 100 k n).live ≡ true
+      → (connection_then r area 100 k n).due ≡ true
   -- with numbers, H 2 s: a tablet heard just now is closed after 6,000 ms by both; one silent for 99 ms after 5,901 ms and after 6,000
   pub heard_now : (r : Record) (area : List ℕ) (n : ℕ) → Tablet r area n 2000 0
       → ClosesAtTick r area 1 6000 n × ClosesAtTick r area 100 60 n

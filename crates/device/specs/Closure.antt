@@ -1,5 +1,6 @@
 -- R60. What a closure takes and leaves.
-use Rattle.std.specs.Prelude.{◌≡◌, ℕ, ◌+◌, ◌^◌, ◌<◌, Bool, true, false, cond, ◌&&◌, List, [], map, ◌==◌, nat_le, slice_index, slice_index_or, slice_set}
+use Rattle.std.specs.Prelude.{◌≡◌, ℕ, ◌+◌, ◌^◌, ◌<◌, Bool, true, false, cond, ◌&&◌, List, [], map}
+use Rattle.std.specs.Prelude.{◌==◌, nat_le, slice_index, slice_index_or, slice_set}
 use Rattle.connection.specs.State.{closed, live_at}
 use Rattle.connection.specs.Supervision.{closes_at}
 use Rattle.subscription.specs.State.{free}
@@ -70,7 +71,8 @@ pub record ClosureFrees : Type 0 where
   -- the host's close, or a fault's
   pub closing : (d : Device) (n : ℕ) → Gone n d (close_of d n)
   pub others : (d : Device) (n k : ℕ) → (k == n) ≡ false → live_at d.connections k ≡ true → Stays k d (close_of d n)
-  pub same : (d : Device) (n k : ℕ) → (k == n) ≡ false → slice_index_or (close_of d n).connections k closed ≡ slice_index_or d.connections k closed
+  pub same : (d : Device) (n k : ℕ) → (k == n) ≡ false
+      → slice_index_or (close_of d n).connections k closed ≡ slice_index_or d.connections k closed
   -- where the record rules hold, closing comes to R60 word by word
   pub wording : (d : Device) (n : ℕ) → device_obeys d ≡ true → close_of d n ≡ freed_of d n
   -- a lock that the connection held can be taken

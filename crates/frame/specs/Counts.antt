@@ -40,7 +40,8 @@ pub record CountTells : Type 0 where
   pub tells : (kind : ℕ) (e : List ℕ) → well_formed kind e ≡ true
       → NoneIsBare (least_count kind) (count_given kind e) (drop (parameter_offset kind e) e)
   -- a higher count in an entry that ends at its parameter offset is no entry, at the front of whatever bytes
-  pub announced : (kind : ℕ) (t : List ℕ) → be32_at t 0 ≡ parameter_offset kind t → least_count kind < count_given kind t → entry_size kind t ≡ 0
+  pub announced : (kind : ℕ) (t : List ℕ) → be32_at t 0 ≡ parameter_offset kind t → least_count kind < count_given kind t
+      → entry_size kind t ≡ 0
   -- the least count is 1 for a notification, and 0 for the others
   pub least : least_count notification ≡ 1
   pub others : (kind : ℕ) → (kind ≡ notification → ⊥) → least_count kind ≡ 0

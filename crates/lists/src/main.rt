@@ -52,7 +52,7 @@ fn list_file(rt: &HostRuntime, name: &[u8]) {
 // The answer is false behind the last argument.
 fn list_argument(rt: &HostRuntime, i: usize) -> bool {
     let mut space = [0u8; 4096];
-    match rt.arg(i, &mut space) {
+    match Env::arg(rt, i, &mut space) {
         Ok(n) => {
             list_file(rt, &space[..n]);
             true

@@ -1,7 +1,9 @@
 // The C boundary: each call of the library melorwyth, with the same clauses. This crate is the archive that C and Rust link.
 #![tactic(auto)]
 
-ghost use Rattle.melorwyth.specs.Promises.{AppendHands, ClearHands, CloseHands, ContextHands, DatagramHands, DeliverHands, EntryHands, FreshHands, KeepAliveHands, OpenHands, PartHands, ReadingHands, StartHands, TakeHands, TickHands, VersionHands};
+ghost use Rattle.melorwyth.specs.Promises.{VersionHands, FreshHands, ClearHands, OpenHands, CloseHands, TickHands};
+ghost use Rattle.melorwyth.specs.Promises.{DeliverHands, TakeHands, DatagramHands};
+ghost use Rattle.melorwyth.specs.Promises.{AppendHands, ContextHands, EntryHands, KeepAliveHands, PartHands, ReadingHands, StartHands};
 
 use endpoint::Record;
 use melorwyth::messages::{Entry, Part, Reading, Written};

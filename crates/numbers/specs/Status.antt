@@ -43,4 +43,6 @@ carried_out = 0
 
 -- R40. All of them, in that order.
 abbrev pub statuses : List ℕ
-statuses = no_object ∷ no_method ∷ forbidden ∷ malformed ∷ held_by_other ∷ strange_emitter ∷ bad_value ∷ out_of_turn ∷ no_free_entry ∷ carried_out ∷ []
+statuses =
+    no_object ∷ no_method ∷ forbidden ∷ malformed ∷ held_by_other ∷ strange_emitter ∷ bad_value ∷ out_of_turn
+    ∷ no_free_entry ∷ carried_out ∷ []

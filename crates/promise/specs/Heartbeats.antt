@@ -1,5 +1,6 @@
 -- R49 to R55. A connection on which nothing is sent for H is sent something.
-use Rattle.std.specs.Prelude.{ℕ, zero, suc, ◌+◌, ◌<◌, ◌≤◌, ◌≡◌, ◌⊎◌, Bool, true, false, cond, ◌&&◌, ◌||◌, List, [], ◌∷◌, ◌++◌, eqb, length, get_or, take}
+use Rattle.std.specs.Prelude.{ℕ, zero, suc, ◌+◌, ◌<◌, ◌≤◌, ◌≡◌, ◌⊎◌, Bool, true, false, cond, ◌&&◌, ◌||◌, eqb}
+use Rattle.std.specs.Prelude.{List, [], ◌∷◌, ◌++◌, length, get_or, take}
 use Rattle.laws.specs.Lists.{any}
 use Rattle.heartbeat.specs.Beat.{form_of, beat_of}
 use Rattle.heartbeat.specs.declared.Heartbeat.{Heartbeat}

@@ -52,8 +52,10 @@ pub record Comes (r : Record) (reading count greatest : ℕ) : Type 0 where
 -- Theorem. No count runs over, whatever record, area and reading: an accepted record's are small, and any other is refused by 1.
 pub record NoOverrun : Type 0 where
   -- a record that 1 does not refuse, and a step that 6 does not: every count comes to these numbers at most
-  pub silence : (r : Record) (reading n : ℕ) → record_obeys r ≡ true → step_at r reading < 2 ^ 31 → silence_with r reading n ≤ greatest_silence
-  pub quiet : (r : Record) (reading n : ℕ) → record_obeys r ≡ true → step_at r reading < 2 ^ 31 → quiet_with r reading n ≤ greatest_quiet
+  pub silence : (r : Record) (reading n : ℕ) → record_obeys r ≡ true → step_at r reading < 2 ^ 31
+      → silence_with r reading n ≤ greatest_silence
+  pub quiet : (r : Record) (reading n : ℕ) → record_obeys r ≡ true → step_at r reading < 2 ^ 31
+      → quiet_with r reading n ≤ greatest_quiet
   -- which 64 bits hold
   pub fit : (greatest_silence < 2 ^ 64) × (greatest_quiet < 2 ^ 64)
   -- and to no smaller ones: with the greatest heartbeat and the longest steps both are reached

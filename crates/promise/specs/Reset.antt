@@ -1,5 +1,6 @@
 -- R75 to R77. Reset by key, and the channels after it.
-use Rattle.std.specs.Prelude.{ℕ, zero, suc, ◌+◌, ◌<◌, ◌≡◌, Bool, true, false, not, ◌&&◌, ◌||◌, List, [], ◌∷◌, ◌++◌, eqb, ltb, length, get_or, take, drop}
+use Rattle.std.specs.Prelude.{ℕ, zero, suc, ◌+◌, ◌<◌, ◌≡◌, Bool, true, false, not, ◌&&◌, ◌||◌, eqb, ltb}
+use Rattle.std.specs.Prelude.{List, [], ◌∷◌, ◌++◌, length, get_or, take, drop}
 use Rattle.numbers.specs.Status.{held_by_other, carried_out}
 use Rattle.octets.specs.Zeros.{zeros}
 use Rattle.frame.specs.Limits.{header_end, notification}

@@ -1,5 +1,5 @@
 -- Keep-alives and notifications are read, and so is what a take leaves in the output. Assumes nothing.
-use Prim.Native.Nat.{ℕ, ◌/◌, ◌+◌, ◌≤◌}
+use Prim.Native.Nat.{ℕ, ◌/◌, ◌≤◌}
 use mathlib.Core.Path.{◌≡◌, refl, sym, ap}
 use mathlib.Core.Logic.{◌⊎◌, inl, inr}
 use mathlib.Core.Bool.{Bool, true, false, cond, not, ◌&&◌}

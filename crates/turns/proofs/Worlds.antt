@@ -1,4 +1,4 @@
--- What a read gives and what is handed over, from a descriptor or a tape. Assumes nothing.
+-- What a read gives and what is handed over, from a reader or a tape. Assumes nothing.
 use Prim.Native.Nat.{ℕ, ◌+◌, ◌≤◌, ◌<◌}
 use mathlib.Core.Path.{◌≡◌, refl, sym, ap, ◌∙◌}
 use mathlib.Core.List.{List, ◌++◌, append_assoc}
@@ -35,7 +35,7 @@ module _ (s text : List ℕ) (handed : ℕ) where
         };
       }
 
-  -- what a descriptor is handed is outside
+  -- what a writer is handed is outside
   pub hands_out : {taped : Bool} (f : Bool) → taped ≡ false → handed ≤ length text → HandsOver taped s text handed text (record { handed = handed; failed = f })
   hands_out f e h = record { within = h; keeps = λ z. absurd (true≢false (sym z ∙ e)) }
 
@@ -54,7 +54,7 @@ reads_tape {tape} {before} {after} {at} {held} {r} h l z e =
       told = λ x. refl;
     }
 
--- what a descriptor gives is outside
+-- what a reader gives is outside
 pub reads_in : {taped : Bool} {before after : List ℕ} {held : ℕ} (tape : List ℕ) (at n : ℕ) (f : Bool) → taped ≡ false → held + n ≤ length after
     → take held after ≡ take held before → ReadsMore taped tape at held before after (record { count = n; failed = f })
 reads_in tape at n f e h s =

@@ -36,7 +36,7 @@ pub record ListingEnds (taped : Bool) (tape text : List ℕ) (r : State) : Type 
   pub taped_whole : taped ≡ true → r.over ≡ true → r.failed ≡ false → rest ≡ []
   pub full : taped ≡ true → r.failed ≡ true → length text < length (listing tape)
 
--- R80. The listing of a descriptor answers true where it ended with the last line, and nothing failed.
+-- R80. The listing of a reader answers true where it ended with the last line, and nothing failed.
 pub record DescriptorListed (r : Bool) : Type 0 where
   pub state : State
   pub ended : (text : List ℕ) × ListingEnds false [] text state

@@ -1,6 +1,6 @@
 use Rattle.std.proofs.Common.{arith}
 use borrow.Author.Tests.{eq-eqb}
-use Rattle.lines.specs.Text.{space, end_line, part_line}
+use Rattle.lines.specs.Text.{space, end_line}
 use Rattle.lines.proofs.Putting.{puts_then}
 use Rattle.lines.proofs.Decimals.{short64}
 use Rattle.lines.proofs.put_end.Goals as goal

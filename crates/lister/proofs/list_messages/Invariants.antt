@@ -1,11 +1,5 @@
-use mathlib.Core.Path.{◌∙◌}
-use lib.ListN.{drop, length-drop}
-use Rattle.laws.proofs.Parts.{rest}
-use Rattle.lines.proofs.Putting.{puts_length}
-use Rattle.lister.proofs.Walks.{walked_none, walked_more, walked_stop, walked_all, nothing_unsound, nothing_fault}
-use Prim.Native.Nat.{◌-◌, ◌≤◌}
+use Prim.Native.Nat.{◌-◌}
 use lib.ListN.{length}
-use native.Mathlib.Omega.{arith}
 use Rattle.lister.proofs.Walks.{Walked}
 use Rattle.lister.proofs.list_messages.Given as goal
 

@@ -1,8 +1,6 @@
 use Prim.Native.Nat.{◌≤◌, ◌-◌}
-use mathlib.Core.Path.{◌≡◌, refl, ap, ◌∙◌}
-use lib.ListN.{length}
-use native.Mathlib.Omega.{arith}
-use Rattle.lister.proofs.Moves.{moved, moved_length, moved_more}
+use mathlib.Core.Path.{◌≡◌}
+use Rattle.lister.proofs.Moves.{moved}
 use Rattle.lister.proofs.move_down.Given as goal
 
 abbrev pub invariant-loop-i : goal.invariant-loop-i

@@ -1,5 +1,5 @@
 use Prim.Native.Nat.{◌-◌}
-use Rattle.octets.proofs.Scans.{Halving, halving_none, halving_more, halving_all}
+use Rattle.octets.proofs.Scans.{Halving}
 use Rattle.octets.proofs.all_zero.Given as goal
 
 abbrev pub invariant-loop-i : goal.invariant-loop-i

@@ -1,9 +1,7 @@
 use Prim.Native.Nat.{◌≤◌, ◌-◌}
-use mathlib.Core.Path.{◌≡◌, refl}
-use native.Mathlib.Omega.{arith}
-use lib.ListN.{length, take, length-set}
+use mathlib.Core.Path.{◌≡◌}
+use lib.ListN.{length, take}
 use Rattle.octets.specs.Zeros.{zeros}
-use Rattle.octets.proofs.Scans.{clear_none, clear_more, clear_all}
 use Rattle.octets.proofs.clear.Given as goal
 
 abbrev pub invariant-loop-i : goal.invariant-loop-i

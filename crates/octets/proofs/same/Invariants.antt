@@ -1,6 +1,6 @@
 use Prim.Native.Nat.{◌-◌}
 use lib.ListN.{length}
-use Rattle.octets.proofs.Sames.{Comparing, same_long, comparing_none, comparing_more, comparing_all}
+use Rattle.octets.proofs.Sames.{Comparing}
 use Rattle.octets.proofs.same.Given as goal
 
 abbrev pub invariant-loop-at : goal.invariant-loop-at

@@ -1,10 +1,6 @@
-use Prim.Native.Nat.{ℕ, ◌-◌}
-use lib.ListN.{length, take, drop}
-use Rattle.laws.proofs.Parts.{rest}
-use Rattle.script.specs.Script.{first_size}
 use native.Mathlib.Omega.{arith}
-use mathlib.Core.Path.{◌≡◌, refl, ap, ◌∙◌}
-use Rattle.script.proofs.Stages.{Playing, playing_none, playing_more, playing_all}
+use mathlib.Core.Path.{refl}
+use Rattle.script.proofs.Stages.{playing_all}
 use Rattle.script.proofs.run.Goals as goal
 
 pub returns : goal.returns

@@ -1,10 +1,5 @@
-use Prim.Native.Nat.{ℕ, ◌-◌}
-use lib.ListN.{length, take, drop}
-use Rattle.laws.proofs.Parts.{rest}
-use Rattle.script.specs.Script.{first_size}
-use native.Mathlib.Omega.{arith}
-use mathlib.Core.Path.{◌≡◌, refl, ap, ◌∙◌}
-use Rattle.script.proofs.Stages.{Playing, playing_none, playing_more, playing_all}
+use lib.ListN.{length}
+use Rattle.script.proofs.Stages.{Playing}
 use Rattle.script.proofs.run.Given as goal
 
 abbrev pub invariant-loop-t : goal.invariant-loop-t
