@@ -5,8 +5,8 @@
  * when a controller is gone, and is reset by key. Sockets, TLS, discovery and the
  * clock are yours. It has no heap, no globals, no threads and no callbacks: all state is
  * a record and an area of bytes, and both are yours. Link libmelorwyth.a (x86-64,
- * System V); of the C library it needs memcpy and memset. examples/host.c is a
- * whole host over POSIX sockets.
+ * System V); of the C library it needs memcpy, memmove and memset. examples/host.c
+ * is a whole host over POSIX sockets.
  *
  * HOW IT IS USED
  *
@@ -133,8 +133,8 @@
  * - let two buffers of one call overlap;
  * - put anything but 0 or 1 into a bool of the record;
  * - pass one record and area to two calls at the same time;
- * - call with less than about 32 KB of stack: records pass by value, and the
- *   deepest call, melorwyth_take, takes 26 KB with the place for its answer
+ * - call with less than about 64 KB of stack: records pass by value, and the
+ *   deepest call, melorwyth_deliver, takes 55 KB with the place for its answer
  *   (docs/BENCHMARKS.md).
  *
  * A record that was changed between calls is not in this list: if it breaks a
