@@ -8,14 +8,14 @@ ghost use Rattle.command.specs.Acting.{same_channels, Acts};
 
 use objects::Answer;
 
-#[derive(Drop)]
+#[derive(Clone, Copy)]
 pub struct Channels {
     pub mutes: [u8; 8],
     pub holders: [u8; 8],
 }
 
 // `changed` is whether a mute has another value: then its subscriptions are to be marked.
-#[derive(Drop)]
+#[derive(Clone, Copy)]
 pub struct Acted {
     pub channels: Channels,
     pub answer: Answer,

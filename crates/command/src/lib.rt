@@ -9,7 +9,7 @@ use objects::Answer;
 pub mod channels;
 pub mod slot;
 
-#[derive(Drop)]
+#[derive(Clone, Copy)]
 pub struct Armed {
     pub mechanism: Mechanism,
     pub answer: Answer,

@@ -8,13 +8,13 @@ use objects::Answer;
 use subscription::Subscription;
 
 // An entry at its place; at 32 there is none.
-#[derive(Drop)]
+#[derive(Clone, Copy)]
 pub struct Slot {
     pub place: usize,
     pub entry: Subscription,
 }
 
-#[derive(Drop)]
+#[derive(Clone, Copy)]
 pub struct Booked {
     pub slot: Slot,
     pub answer: Answer,

@@ -12,7 +12,7 @@ use Rattle.reader.specs.Read.{data_of}
 abbrev pub bytes_from : List ℕ → ℕ → List ℕ
 bytes_from s i = entries_from i (pdu_type s) (data_of s (message_length s))
 
--- R16. A whole message with a sound header stands at the front of s, and its message_count is above i.
+-- R16. A whole message with a sound header stands at the front of s, and its messageCount is above i.
 pub record Headed (s : List ℕ) (i : ℕ) : Type 0 where
   pub first : get_or s 0 0 ≡ sync
   pub header : header_fault s ≡ 0

@@ -14,7 +14,7 @@ use device::Device;
 use frame::Decision;
 
 // The device, the connection's count of undecided bytes, and the answer.
-#[derive(Drop)]
+#[derive(Clone, Copy)]
 pub struct Delivered {
     pub device: Device,
     pub held: u16,

@@ -35,7 +35,7 @@ pub enum Opening {
     Full,
 }
 
-#[derive(Drop)]
+#[derive(Clone, Copy)]
 pub struct Opened {
     pub device: Device,
     pub answer: Opening,
@@ -47,7 +47,7 @@ pub enum Closing {
     NotOpen,
 }
 
-#[derive(Drop)]
+#[derive(Clone, Copy)]
 pub struct Closed {
     pub device: Device,
     pub answer: Closing,
@@ -59,7 +59,7 @@ pub enum Ticking {
     ClockBack,
 }
 
-#[derive(Drop)]
+#[derive(Clone, Copy)]
 pub struct Ticked {
     pub device: Device,
     pub answer: Ticking,

@@ -1,4 +1,4 @@
--- R68. What each call promises of its result and of the bytes it is lent: the contracts, and what one_result theorems speak of.
+-- R68. What each call promises of its result and of the bytes it is lent: the contracts, and what one-result theorems speak of.
 use Rattle.std.specs.Prelude.{ℕ, ◌≡◌, Bool, List, []}
 use Rattle.answers.specs.Numbers.{clearing_numbers, opening_numbers, closing_numbers, ticking_numbers, delivery_numbers, taking_numbers}
 use Rattle.answers.specs.declared.Clearing.{Clearing}

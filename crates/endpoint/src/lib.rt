@@ -30,31 +30,31 @@ pub struct Record {
     pub held: [u16; 8],
 }
 
-#[derive(Drop)]
+#[derive(Clone, Copy)]
 pub struct Opened {
     pub state: Record,
     pub answer: Opening,
 }
 
-#[derive(Drop)]
+#[derive(Clone, Copy)]
 pub struct Closed {
     pub state: Record,
     pub answer: Closing,
 }
 
-#[derive(Drop)]
+#[derive(Clone, Copy)]
 pub struct Ticked {
     pub state: Record,
     pub answer: Ticking,
 }
 
-#[derive(Drop)]
+#[derive(Clone, Copy)]
 pub struct Delivered {
     pub state: Record,
     pub answer: Delivery,
 }
 
-#[derive(Drop)]
+#[derive(Clone, Copy)]
 pub struct Taken {
     pub state: Record,
     pub answer: Taking,

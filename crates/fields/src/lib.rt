@@ -11,13 +11,13 @@ ghost use Rattle.fields.specs.Fields.{method_at, command_of, notification_of, re
 use frame::places;
 use heartbeat::{Heartbeat, Milliseconds, Seconds};
 
-#[derive(Drop)]
+#[derive(Clone, Copy)]
 pub struct Method {
     pub level: u16,
     pub index: u16,
 }
 
-#[derive(Drop)]
+#[derive(Clone, Copy)]
 pub struct CommandFields {
     pub handle: u32,
     pub target: u32,
@@ -25,7 +25,7 @@ pub struct CommandFields {
     pub count: u8,
 }
 
-#[derive(Drop)]
+#[derive(Clone, Copy)]
 pub struct NotificationFields {
     pub target: u32,
     pub method: Method,
@@ -35,7 +35,7 @@ pub struct NotificationFields {
     pub event: Method,
 }
 
-#[derive(Drop)]
+#[derive(Clone, Copy)]
 pub struct ResponseFields {
     pub handle: u32,
     pub status: u8,

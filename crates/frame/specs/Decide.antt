@@ -11,7 +11,7 @@ use Rattle.frame.specs.declared.Decision.TheVariants.{Undecided, Faulty, Sound}
 unfoldable pub keep_alive_fill : List ℕ → Bool
 keep_alive_fill t = cond (eqb (length t) seconds_bytes) true (eqb (length t) milliseconds_bytes)
 
--- R13. The data is right for its type and message_count.
+-- R13. The data is right for its type and messageCount.
 unfoldable pub data_sound : ℕ → ℕ → List ℕ → Bool
 data_sound kind count t = cond (eqb kind keep_alive) (keep_alive_fill t) (entries_fill count kind t)
 

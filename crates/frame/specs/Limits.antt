@@ -9,15 +9,15 @@ sync = 0x3B
 abbrev pub header_end : ℕ
 header_end = 10
 
--- R7. The only protocol_version.
+-- R7. The only protocolVersion.
 abbrev pub version : ℕ
 version = 1
 
--- R8. The least pdu_size: a header and no data.
+-- R8. The least pduSize: a header and no data.
 abbrev pub least_size : ℕ
 least_size = 9
 
--- R8. The greatest pdu_size of what is received or written by the writer.
+-- R8. The greatest pduSize of what is received or written by the writer.
 abbrev pub greatest_size : ℕ
 greatest_size = 2048
 

@@ -1,19 +1,19 @@
 -- R7, R9. Where the fields stand, each place once: of the header in a message, of an entry in its bytes.
 use Rattle.std.specs.Prelude.{ℕ}
 
--- R7. Where protocol_version stands.
+-- R7. Where protocolVersion stands.
 abbrev pub version_place : ℕ
 version_place = 1
 
--- R7. Where pdu_size stands.
+-- R7. Where pduSize stands.
 abbrev pub size_place : ℕ
 size_place = 3
 
--- R7. Where pdu_type stands.
+-- R7. Where pduType stands.
 abbrev pub type_place : ℕ
 type_place = 7
 
--- R7. Where message_count stands.
+-- R7. Where messageCount stands.
 abbrev pub message_count_place : ℕ
 message_count_place = 8
 

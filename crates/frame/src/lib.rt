@@ -53,7 +53,7 @@ pub const MILLISECONDS_BYTES: usize = 4;
 const NO_ENTRY: usize = 65535;
 
 // What the bytes so far decide, with how many of them that takes.
-#[derive(Drop)]
+#[derive(Clone, Copy)]
 pub enum Decision {
     Undecided,
     Faulty(u8, usize),
@@ -61,14 +61,14 @@ pub enum Decision {
 }
 
 // A decision, and of a sound message the bytes from the entry that was looked for on: 0 where it has no such entry.
-#[derive(Drop)]
+#[derive(Clone, Copy)]
 pub struct Found {
     pub decision: Decision,
     pub rest: usize,
 }
 
 // Whether the entries that were walked over are sound, and how many bytes there are from some entry on.
-#[derive(Drop)]
+#[derive(Clone, Copy)]
 struct Walked {
     sound: bool,
     rest: usize,

@@ -1,10 +1,10 @@
--- R23, R24. A message's bytes, from its type, message_count and data, and its place in a buffer.
+-- R23, R24. A message's bytes, from its type, messageCount and data, and its place in a buffer.
 use Rattle.std.specs.Prelude.{ℕ, ◌+◌, List, ◌∷◌, ◌++◌, cond, length, drop, eqb}
 use Rattle.octets.specs.Numbers.{bytes16, bytes32}
 use Rattle.heartbeat.specs.Beat.{seconds_form}
 use Rattle.frame.specs.Limits.{sync, version, least_size}
 
--- R23. pdu_size: the header's 9 bytes and the data.
+-- R23. pduSize: the header's 9 bytes and the data.
 abbrev pub size_of : List ℕ → ℕ
 size_of body = length body + least_size
 

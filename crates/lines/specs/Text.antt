@@ -26,7 +26,7 @@ part_word = 112 ∷ 97 ∷ 114 ∷ 116 ∷ space ∷ []
 abbrev pub end_word : List ℕ
 end_word = 101 ∷ 110 ∷ 100 ∷ newline ∷ []
 
--- R78. The line of a message: offset, type, message_count, pdu_size.
+-- R78. The line of a message: offset, type, messageCount, pduSize.
 unfoldable pub message_line : ℕ → ℕ → ℕ → ℕ → List ℕ
 message_line at kind count size = number_text at space ++ (number_text kind space ++ (number_text count space ++ number_text size newline))
 

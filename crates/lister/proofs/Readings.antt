@@ -23,7 +23,7 @@ use Rattle.reader.specs.Read.{data_of, message_of, read_by, read_of}
 use Rattle.reader.specs.declared.Message.{Message}
 use Rattle.reader.specs.declared.Reading.TheVariants.{Read, Fault, Short}
 
--- a keep-alive without a fault has message_count 1
+-- a keep-alive without a fault has messageCount 1
 keep_count : (kind count : ℕ) → kind ≡ keep_alive → count_fault kind count ≡ 0 → count ≡ 1
 unfolding count_fault
 keep_count kind count k e =
@@ -32,7 +32,7 @@ keep_count kind count k e =
     let r = cond_left (eqb count 1) 0 fault_count 0 q (λ z. omega arith) in
     eqb-true count 1 r.0
 
--- the type and message_count that the reader tells are the header's
+-- the type and messageCount that the reader tells are the header's
 pub record Told (s ms : List ℕ) : Type 0 where
   pub kind : get_or ms 0 0 ≡ pdu_type s
   pub count : get_or ms 1 0 ≡ message_count s

@@ -14,7 +14,7 @@ ghost use Rattle.lister.specs.Sample.{SampleListed};
 
 use reader::{Message, Reading};
 
-#[derive(Drop)]
+#[derive(Clone, Copy)]
 struct Listed {
     // the bytes of the messages that were listed
     used: usize,
@@ -24,7 +24,7 @@ struct Listed {
     fault: u8,
 }
 
-#[derive(Drop)]
+#[derive(Clone, Copy)]
 pub struct Piece {
     pub used: usize,
     pub put: usize,

@@ -17,13 +17,13 @@ pub mod messages;
 pub const VERSION: u32 = 256;
 
 #[repr(C)]
-#[derive(Drop)]
+#[derive(Clone, Copy)]
 pub struct Cleared {
     pub number: u8,
 }
 
 #[repr(C)]
-#[derive(Drop)]
+#[derive(Clone, Copy)]
 pub struct Opened {
     pub state: Record,
     pub number: u8,
@@ -31,14 +31,14 @@ pub struct Opened {
 }
 
 #[repr(C)]
-#[derive(Drop)]
+#[derive(Clone, Copy)]
 pub struct Closed {
     pub state: Record,
     pub number: u8,
 }
 
 #[repr(C)]
-#[derive(Drop)]
+#[derive(Clone, Copy)]
 pub struct Ticked {
     pub state: Record,
     pub number: u8,
@@ -47,7 +47,7 @@ pub struct Ticked {
 }
 
 #[repr(C)]
-#[derive(Drop)]
+#[derive(Clone, Copy)]
 pub struct Delivered {
     pub state: Record,
     pub number: u8,
@@ -59,7 +59,7 @@ pub struct Delivered {
 }
 
 #[repr(C)]
-#[derive(Drop)]
+#[derive(Clone, Copy)]
 pub struct Taken {
     pub state: Record,
     pub number: u8,
@@ -70,7 +70,7 @@ pub struct Taken {
 }
 
 #[repr(C)]
-#[derive(Drop)]
+#[derive(Clone, Copy)]
 pub struct Reset {
     pub state: Record,
     pub number: u8,

@@ -5,19 +5,19 @@ use Rattle.std.specs.Prelude.{ℕ, List, [], ◌∷◌}
 abbrev pub fault_start : ℕ
 fault_start = 1
 
--- R17. protocol_version is not 1.
+-- R17. protocolVersion is not 1.
 abbrev pub fault_version : ℕ
 fault_version = 2
 
--- R17. pdu_size is below 9 or above 2,048.
+-- R17. pduSize is below 9 or above 2,048.
 abbrev pub fault_size : ℕ
 fault_size = 3
 
--- R17. pdu_type is above 4.
+-- R17. pduType is above 4.
 abbrev pub fault_type : ℕ
 fault_type = 4
 
--- R17. message_count is 0, or not 1 in a keep-alive.
+-- R17. messageCount is 0, or not 1 in a keep-alive.
 abbrev pub fault_count : ℕ
 fault_count = 5
 

@@ -37,7 +37,7 @@ fault = 8
 abbrev pub short : ℕ
 short = 9
 
--- R63. pdu_size would be above 2,048.
+-- R63. pduSize would be above 2,048.
 abbrev pub too_long : ℕ
 too_long = 10
 

@@ -18,7 +18,7 @@ use Rattle.reader.specs.declared.Entry.TheVariants as entry
 unfoldable pub heartbeat_numbers : Heartbeat → List ℕ
 heartbeat_numbers h = form_of h ∷ value_of h ∷ []
 
--- R66. A message: its type and message_count; a keep-alive's count is 1, and its heartbeat follows.
+-- R66. A message: its type and messageCount; a keep-alive's count is 1, and its heartbeat follows.
 unfoldable pub message_numbers : Message → List ℕ
 message_numbers (Command n) = 0 ∷ n ∷ []
 message_numbers (CommandWantingReply n) = command_wanting_reply ∷ n ∷ []

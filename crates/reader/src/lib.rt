@@ -28,7 +28,7 @@ pub enum Message {
     KeepAlive(Heartbeat),
 }
 
-#[derive(Drop)]
+#[derive(Clone, Copy)]
 pub enum Reading {
     // the message and its length, the 3B counted
     Read(Message, usize),
@@ -36,7 +36,7 @@ pub enum Reading {
     Short,
 }
 
-#[derive(Drop)]
+#[derive(Clone, Copy)]
 pub enum Entry {
     Command(CommandFields),
     Notification(NotificationFields),
@@ -47,7 +47,7 @@ pub enum Entry {
 }
 
 // Where an entry stands in the caller's bytes, up to the byte behind its last; or why it is refused.
-#[derive(Drop)]
+#[derive(Clone, Copy)]
 enum Place {
     At(usize, usize),
     Fault(u8),
@@ -56,7 +56,7 @@ enum Place {
 }
 
 // Where an entry's part stands in the caller's bytes.
-#[derive(Drop)]
+#[derive(Clone, Copy)]
 pub struct Part {
     pub start: usize,
     pub length: usize,

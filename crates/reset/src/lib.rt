@@ -7,7 +7,7 @@ ghost use Rattle.reset.specs.Tell.{ResettingsTell};
 use answers::Resetting;
 use endpoint::Record;
 
-#[derive(Drop)]
+#[derive(Clone, Copy)]
 pub struct Reset {
     pub state: Record,
     pub answer: Resetting,

@@ -25,7 +25,7 @@ pub const TAKE: u8 = 3;
 // On the reset mechanism's port; any kind above delivers to a connection.
 pub const DATAGRAM: u8 = 4;
 
-#[derive(Drop)]
+#[derive(Clone, Copy)]
 pub struct Played {
     pub state: Record,
     // of the last call

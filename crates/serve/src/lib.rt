@@ -24,11 +24,11 @@ use objects::Answer;
 use subscription::Subscription;
 
 // What commands may touch besides their connection, and the place behind the last response.
-#[derive(Drop)]
+#[derive(Clone, Copy)]
 struct Served(Channels, [Subscription; 32], Mechanism, usize);
 
 // The device, and the length of the reply in the output.
-#[derive(Drop)]
+#[derive(Clone, Copy)]
 pub struct Ruling {
     pub device: Device,
     pub length: usize,

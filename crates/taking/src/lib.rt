@@ -15,14 +15,14 @@ use device::Device;
 use subscription::Subscription;
 
 // The device, and the answer.
-#[derive(Drop)]
+#[derive(Clone, Copy)]
 pub struct Taken {
     pub device: Device,
     pub answer: Taking,
 }
 
 // What a message changes: an entry at its place and a connection at its number; past the last, none.
-#[derive(Drop)]
+#[derive(Clone, Copy)]
 struct Sending {
     pub place: usize,
     pub entry: Subscription,

@@ -25,7 +25,7 @@ unwritten number buf = record { answer = number ∷ []; buffer = buf }
 unfoldable pub written : List ℕ → List ℕ → Writing
 written m buf = record { answer = not_refused ∷ length m ∷ []; buffer = at_front m buf }
 
--- R63. Refusal 10 where pdu_size would be above 2,048; else the message is written.
+-- R63. Refusal 10 where pduSize would be above 2,048; else the message is written.
 unfoldable pub offered : ℕ → ℕ → List ℕ → List ℕ → Writing
 offered kind count body buf =
     cond (ltb greatest_size (size_of body)) (unwritten too_long buf) (written (message kind count body) buf)

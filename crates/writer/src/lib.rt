@@ -19,7 +19,7 @@ const SECONDS_LENGTH: usize = frame::HEADER_END + frame::SECONDS_BYTES;
 
 const MILLISECONDS_LENGTH: usize = frame::HEADER_END + frame::MILLISECONDS_BYTES;
 
-#[derive(Drop)]
+#[derive(Clone, Copy)]
 pub enum Written {
     Length(usize),
     NoRoom,
