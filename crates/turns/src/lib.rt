@@ -7,17 +7,13 @@
 ghost use Rattle.std.specs.Prelude.{◌≡◌, true, ◌+◌, ◌≤◌, ◌<◌, length, take, drop};
 ghost use Rattle.std.proofs.lemmas.List.Edits.{sets};
 ghost use Rattle.turns.specs.Ends.{ListingEnds, DescriptorListed, TapeListed};
-ghost use Rattle.turns.specs.Scaffold.{piece_bytes, text_bytes, ReadsMore, HandsOver, TurnReady};
+ghost use Rattle.turns.specs.Scaffold.{piece_bytes, ReadsMore, HandsOver, TurnReady};
 ghost use Rattle.turns.specs.Turns.{Turned};
 
-use std::io;
-use std::io::{Read, Write};
+use std::io::{Read, Write, empty, sink};
 
-// The input's buffer. A message has at least 10 bytes and a line at most 40, so the output's buffer has room for the lines of a piece.
+// The input's buffer. A message has at least 10 bytes and a line at most 40, so io's large buffer has room for the lines of a piece.
 pub const PIECE: usize = 16000;
-
-// The output's buffer.
-const TEXT: usize = 65536;
 
 // Below it every offset of a piece fits 64 bits.
 pub const GREATEST_OFFSET: u64 = 18446744073709500000;
@@ -213,12 +209,6 @@ fn input_buffer() -> [u8; PIECE]
     [0; PIECE]
 }
 
-fn text_buffer() -> [u8; TEXT]
-    ensures { text_bytes ≡ length result }
-{
-    [0; TEXT]
-}
-
 // Lists what is read until the last line is handed over, a write fails, or the offset comes to its limit.
 // Each turn but the last reads a byte or more, so offset and bytes held grow to their limit.
 #[tactic(auto, using(crate::proofs::Turnings::goes_on, crate::proofs::Runs::running_none, crate::proofs::Runs::running_more, crate::proofs::Runs::running_last, crate::proofs::Runs::running_limit))]
@@ -233,7 +223,7 @@ pub fn list_from<R: Read, W: Write, E: Write>(
     ensures { ListingEnds source.taped tape.now text.new result }
 {
     let mut space = input_buffer();
-    let mut lines = text_buffer();
+    let mut lines = io::large_buffer();
     let input: &mut [u8] = &mut space;
     let out: &mut [u8] = &mut lines;
     let mut offset = 0;
@@ -279,15 +269,7 @@ pub fn list_tape(tape: &[u8], most: usize, text: &mut [u8]) -> usize
     ensures { TapeListed tape.now text.new result }
 {
     let source = Source { taped: true, most };
-    list_from(
-        source,
-        &mut io::empty(),
-        &mut io::sink(),
-        &mut io::sink(),
-        tape,
-        text,
-    )
-    .handed
+    list_from(source, &mut empty(), &mut sink(), &mut sink(), tape, text).handed
 }
 
 // Lists standard input on standard output.
