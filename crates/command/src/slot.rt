@@ -31,15 +31,15 @@ fn chosen(first: bool, a: usize, b: usize) -> usize
 
 // The entry of the same subscription, else the lowest free one, else none: one walk for both, from the last entry down.
 #[tactic(auto, using(crate::proofs::Books::seeking_none, crate::proofs::Books::seeking_more, crate::proofs::Books::seeking_found, crate::proofs::Books::seeking_missed), unfolding(octets::specs::Zeros::zeros))]
-pub fn slot_for(entries: [Subscription; 32], wanted: Subscription) -> Slot
-    ensures { result ≡ slot_for entries wanted }
+pub fn slot_for(entries: &[Subscription; 32], wanted: Subscription) -> Slot
+    ensures { result ≡ slot_for entries.now wanted }
 {
     let mut twin: usize = subscription::ENTRIES;
     let mut room: usize = subscription::ENTRIES;
     let mut i: usize = subscription::ENTRIES;
     while 0 < i {
         i -= 1;
-        let t = entries[i];
+        let t = &entries[i];
         twin = chosen(wanted.is_twin(t), i, twin);
         room = chosen(t.used, room, i);
     }
@@ -105,7 +105,7 @@ impl Slot {
 // An add or a remove.
 #[tactic(auto, using(crate::proofs::Books::book_stopped, crate::proofs::Books::book_add, crate::proofs::Books::book_remove, crate::proofs::Books::added_formed, crate::proofs::Books::removed_formed, crate::proofs::Books::booked_long), unfolding(octets::specs::Zeros::zeros))]
 pub fn book(
-    entries: [Subscription; 32],
+    entries: &[Subscription; 32],
     n: u8,
     target: u32,
     m: u32,
@@ -113,7 +113,7 @@ pub fn book(
     part: &[u8],
 ) -> Booked
     requires { is_subscribing m ≡ true }
-    ensures { Books entries n target m count part.now result }
+    ensures { Books entries.now n target m count part.now result }
 {
     let status = objects::first_status(target, m, count, part);
     if status != numbers::CARRIED_OUT {

@@ -202,21 +202,16 @@ impl Connection {
 }
 
 #[tactic(auto, using(crate::proofs::Times::live_out, crate::proofs::Times::live_in))]
-pub fn live_at(connections: [Connection; 8], n: u8) -> bool
-    ensures { result ≡ live_at connections n }
+pub fn live_at(connections: &[Connection; 8], n: u8) -> bool
+    ensures { result ≡ live_at connections.now n }
 {
-    let at = n as usize;
-    if at >= CONNECTIONS {
-        return false;
-    }
-    let c = connections[at];
-    c.live
+    connections.get(n as usize).is_some_and(|c| c.live)
 }
 
 // The lowest free number, or 8.
 #[tactic(auto, using(crate::proofs::Times::free_is, laws::proofs::Loops::searching_none, laws::proofs::Loops::searching_more, laws::proofs::Loops::searching_here, laws::proofs::Loops::searching_end))]
-pub fn lowest_free(connections: [Connection; 8]) -> usize
-    ensures { result ≡ lowest_free connections }
+pub fn lowest_free(connections: &[Connection; 8]) -> usize
+    ensures { result ≡ lowest_free connections.now }
 {
     let mut i: usize = 0;
     while i < CONNECTIONS {
@@ -231,8 +226,8 @@ pub fn lowest_free(connections: [Connection; 8]) -> usize
 
 // The lowest connection due, or 8.
 #[tactic(auto, using(crate::proofs::Times::due_is, laws::proofs::Loops::searching_none, laws::proofs::Loops::searching_more, laws::proofs::Loops::searching_here, laws::proofs::Loops::searching_end))]
-pub fn lowest_due(connections: [Connection; 8]) -> usize
-    ensures { result ≡ lowest_due connections }
+pub fn lowest_due(connections: &[Connection; 8]) -> usize
+    ensures { result ≡ lowest_due connections.now }
 {
     let mut i: usize = 0;
     while i < CONNECTIONS {
@@ -246,8 +241,8 @@ pub fn lowest_due(connections: [Connection; 8]) -> usize
 }
 
 #[tactic(auto, using(laws::proofs::Loops::testing_none, laws::proofs::Loops::testing_more, laws::proofs::Loops::testing_not, laws::proofs::Loops::testing_end))]
-pub fn all_obey(connections: [Connection; 8]) -> bool
-    ensures { result ≡ all connection_obeys connections }
+pub fn all_obey(connections: &[Connection; 8]) -> bool
+    ensures { result ≡ all connection_obeys connections.now }
 {
     let mut i: usize = 0;
     while i < CONNECTIONS {
@@ -262,9 +257,9 @@ pub fn all_obey(connections: [Connection; 8]) -> bool
 
 // Bit n is set where the tick closes connection n.
 #[tactic(auto, using(laws::proofs::Loops::masking_none, laws::proofs::Loops::masking_set, laws::proofs::Loops::masking_clear, laws::proofs::Loops::masking_low, laws::proofs::Loops::masking_all, crate::proofs::Times::obeys_before))]
-pub fn closing(connections: [Connection; 8], step: u32) -> u8
-    requires { (all connection_obeys connections ≡ true) × (step < 2 ^ 31) }
-    ensures { result ≡ mask (closes_at step) connections }
+pub fn closing(connections: &[Connection; 8], step: u32) -> u8
+    requires { (all connection_obeys connections.now ≡ true) × (step < 2 ^ 31) }
+    ensures { result ≡ mask (closes_at step) connections.now }
 {
     let mut m: u8 = 0;
     let mut i: usize = CONNECTIONS;
@@ -280,19 +275,12 @@ pub fn closing(connections: [Connection; 8], step: u32) -> u8
     m
 }
 
-#[tactic(auto, using(crate::proofs::Times::obeys_at, laws::proofs::Loops::mapping_none, laws::proofs::Loops::mapping_from, laws::proofs::Loops::mapping_all))]
-pub fn all_ticked(connections: [Connection; 8], step: u32) -> [Connection; 8]
-    requires { (all connection_obeys connections ≡ true) × (step < 2 ^ 31) }
-    ensures { result ≡ map (connection_ticked step) connections }
+#[tactic(auto, using(crate::proofs::Times::obeys_at))]
+pub fn all_ticked(connections: &mut [Connection; 8], step: u32)
+    requires { (all connection_obeys connections.old ≡ true) × (step < 2 ^ 31) }
+    ensures { connections.new ≡ map (connection_ticked step) connections.old }
 {
-    let mut out = connections;
-    let mut i: usize = 0;
-    while i < CONNECTIONS {
-        let c = connections[i];
-        out[i] = c.ticked(step);
-        i += 1;
-    }
-    out
+    arrays::map_in_place(connections, |c| c.ticked(step));
 }
 
 // The rules are kept by whatever happens to a connection; it has a line in the verdict as this contract.

@@ -13,76 +13,59 @@ use answers::Delivery;
 use device::Device;
 use frame::Decision;
 
-// The device, the connection's count of undecided bytes, and the answer.
-#[derive(Clone, Copy)]
-pub struct Delivered {
-    pub device: Device,
-    pub held: u16,
-    pub answer: Delivery,
-}
-
 // The sound message of t bytes at the front of connection n's part, of which k were there before, is run; `used` bytes lie there.
 #[tactic(auto, using(crate::proofs::Delivers::messaged_is), unfolding(area::specs::Area::undecided_of))]
 fn run(
-    device: Device,
+    device: &mut Device,
     area: &mut [u8],
     n: u8,
     k: usize,
     t: usize,
     used: usize,
     output: &mut [u8],
-) -> Delivered
+) -> Delivery
     requires { MessageLies area.old n k t used × (least_output ≤ length output.old) }
-    ensures { intake (delivery_numbers result.answer) result.device result.held area.new output.new
-        ≡ messaged (sound_of device n (undecided_of area.old n t)) area.old n (t - k) output.old }
+    ensures { intake (delivery_numbers result) device.new 0 area.new output.new
+        ≡ messaged (sound_of device.old n (undecided_of area.old n t)) area.old n (t - k) output.old }
 {
     let at = n as usize;
     let base = at * area::PART;
     let end = base + t;
-    let ruling = serve::sound(device, n, &area[base..end], output);
+    let length = serve::sound(device, n, &area[base..end], output);
     area::clear_used(area, at, used);
-    let next = ruling.device;
-    Delivered {
-        device: next,
-        held: 0,
-        answer: Delivery::Message(t - k, ruling.length),
-    }
+    Delivery::Message(t - k, length)
 }
 
 // A piece of connection n, which is open and has `held` undecided bytes.
 #[tactic(auto, using(area::proofs::Gathers::waits_few, area::proofs::Gathers::waits_gathered, area::proofs::Gathers::cleared_gathered, area::proofs::Gathers::decided_behind, area::proofs::Gathers::message_lies, area::proofs::Gathers::message_whole, device::proofs::Times::close_device, crate::proofs::Delivers::taken_waits, crate::proofs::Delivers::taken_closed, crate::proofs::Delivers::taken_runs), unfolding(frame::specs::Decide::taken, frame::specs::Decide::settled))]
 pub fn take_in(
-    device: Device,
-    held: u16,
+    device: &mut Device,
+    held: &mut u16,
     area: &mut [u8],
     n: u8,
     piece: &[u8],
     output: &mut [u8],
-) -> Delivered
-    requires { Lying area.old n held × (least_output ≤ length output.old) }
-    ensures { intake (delivery_numbers result.answer) result.device result.held area.new output.new
-        ≡ taken_in device area.old n held piece.now output.old }
+) -> Delivery
+    requires { Lying area.old n held.old × (least_output ≤ length output.old) }
+    ensures { intake (delivery_numbers result) device.new held.new area.new output.new
+        ≡ taken_in device.old area.old n held.old piece.now output.old }
 {
     let at = n as usize;
-    let k = held as usize;
+    let k = *held as usize;
     match area::gather(area, at, k, piece) {
-        Decision::Undecided => Delivered {
-            device,
-            held: (k + piece.len()) as u16,
-            answer: Delivery::More(piece.len()),
-        },
+        Decision::Undecided => {
+            *held = (k + piece.len()) as u16;
+            Delivery::More(piece.len())
+        }
         Decision::Faulty(f, t) => {
             area::clear_part(area, at);
-            let closed = device.close(n);
-            let next = closed.device;
-            Delivered {
-                device: next,
-                held: 0,
-                answer: Delivery::Closed(t - k, f),
-            }
+            device.close(n);
+            *held = 0;
+            Delivery::Closed(t - k, f)
         }
         Decision::Sound(t) => {
             let used = k + area::fitting(k, piece.len());
+            *held = 0;
             run(device, area, n, k, t, used, output)
         }
     }

@@ -21,7 +21,6 @@ use Rattle.device.specs.Time.{step_of, advanced, tick_step, tick_of}
 use Rattle.device.specs.declared.Device.{Device}
 use Rattle.device.specs.declared.Opened.{Opened}
 use Rattle.device.specs.declared.Opening.TheVariants.{Number, Full}
-use Rattle.device.specs.declared.Closed.{Closed}
 use Rattle.device.specs.declared.Closing.TheVariants.{Done, NotOpen}
 use Rattle.device.specs.declared.Ticked.{Ticked}
 use Rattle.device.specs.declared.Ticking.TheVariants as ticks
@@ -60,47 +59,75 @@ module _ (d : Device) (n : ℕ) where
         rw (← q, t) (w ∙ ap (with_connections d) k ∙ at_in (beating_of h) d n x a (live_below d.connections n (sym q ∙ t)) e)
 
   -- whether it was open is asked before, and the closure is the same either way
-  module _ (b : Bool) (q : b ≡ live_at d.connections n) (cs : List Connection) (w : cs ≡ set d.connections n closed) (r : Device) (e : r ≡ sweep_of (with_connections d cs)) where
-    pub close_not : b ≡ false → ◌≡◌ {A = Closed} (record { device = r; answer = NotOpen }) (closing_of d n)
-    unfolding closing_of close_of
-    close_not t = rw (e, w, ← q, t)
+  pub close_left : (cs : List Connection) → cs ≡ set d.connections n closed → (r : Device) → r ≡ sweep_of (with_connections d cs) → r ≡ (closing_of d n).device
+  unfolding closing_of close_of
+  close_left cs w r e = rw (e, w)
 
-    pub close_done : b ≡ true → ◌≡◌ {A = Closed} (record { device = r; answer = Done }) (closing_of d n)
-    unfolding closing_of close_of
-    close_done t = rw (e, w, ← q, t)
+  module _ (b : Bool) (q : b ≡ live_at d.connections n) where
+    pub close_not : b ≡ false → NotOpen ≡ (closing_of d n).answer
+    unfolding closing_of
+    close_not t = rw (← q, t)
 
--- what a close hands back
-pub close_device : (d : Device) (n : ℕ) (x : Closed) → x ≡ closing_of d n → x.device ≡ close_of d n
+    pub close_done : b ≡ true → Done ≡ (closing_of d n).answer
+    unfolding closing_of
+    close_done t = rw (← q, t)
+
+-- what a close leaves
+pub close_device : (d : Device) (n : ℕ) (x : Device) → x ≡ (closing_of d n).device → x ≡ close_of d n
 unfolding closing_of
-close_device d n x e = ap (λ (y : Closed). y.device) e
+close_device d n x e = e
 
 -- ---- opening
 module _ (d : Device) (n : ℕ) (q : n ≡ lowest_free d.connections) (e : length d.connections ≡ 8) where
-  pub open_full : 8 ≤ n → ◌≡◌ {A = Opened} (record { device = d; answer = Full }) (open_of d)
+  full : 8 ≤ n → open_of d ≡ record { device = d; answer = Full }
   unfolding open_of
-  open_full h = rw (any_index is_not_open d.connections, ← q, e, le-ltb n 8 h)
+  full h = rw (any_index is_not_open d.connections, ← q, e, le-ltb n 8 h)
 
-  pub open_done : n < 8 → ◌≡◌ {A = Opened} (record { device = with_connections d (set d.connections n opened); answer = Number n }) (open_of d)
+  done : n < 8 → open_of d ≡ record { device = with_connections d (set d.connections n opened); answer = Number n }
   unfolding open_of
-  open_done h = rw (any_index is_not_open d.connections, ← q, e, lt-ltb n 8 h)
+  done h = rw (any_index is_not_open d.connections, ← q, e, lt-ltb n 8 h)
+
+  pub open_full : 8 ≤ n → d ≡ (open_of d).device
+  open_full h = sym (ap (λ (o : Opened). o.device) (full h))
+
+  pub told_full : 8 ≤ n → Full ≡ (open_of d).answer
+  told_full h = sym (ap (λ (o : Opened). o.answer) (full h))
+
+  pub open_done : n < 8 → with_connections d (set d.connections n opened) ≡ (open_of d).device
+  open_done h = sym (ap (λ (o : Opened). o.device) (done h))
+
+  pub told_number : n < 8 → Number n ≡ (open_of d).answer
+  told_number h = sym (ap (λ (o : Opened). o.answer) (done h))
 
 -- ---- sweeping
-pub swept_all : (d : Device) (cs : List Connection) (ss : List Subscription) (hs : List ℕ) → ss ≡ map (swept_of cs) d.subscriptions → hs ≡ map (swept_holder cs) d.holders → with_holders (with_subscriptions (with_connections d cs) ss) hs ≡ sweep_of (with_connections d cs)
+pub swept_all : (d : Device) (ss : List Subscription) (hs : List ℕ) → ss ≡ map (swept_of d.connections) d.subscriptions → hs ≡ map (swept_holder d.connections) d.holders → with_holders (with_subscriptions d ss) hs ≡ sweep_of d
 unfolding sweep_of
-swept_all d cs ss hs p q = rw (p, q)
+swept_all d ss hs p q = rw (p, q)
 
 -- ---- a tick
 pub tick_ready : (d : Device) (step : ℕ) → device_obeys d ≡ true → step < 2147483648 → (all connection_obeys d.connections ≡ true) × (step < 2147483648)
 tick_ready d step h b = ((obeys_are d h).connections, b)
 
 module _ (d : Device) (reading s : ℕ) (e : s ≡ step_of reading d.reading) where
-  pub tick_back : 2147483648 ≤ s → ◌≡◌ {A = Ticked} (record { device = d; answer = ticks.ClockBack }) (tick_of d reading)
+  back : 2147483648 ≤ s → tick_of d reading ≡ record { device = d; answer = ticks.ClockBack }
   unfolding tick_step
-  tick_back h = rw (← e, le-leb _ _ h)
+  back h = rw (← e, le-leb _ _ h)
 
-  pub tick_done : (m : ℕ) (cs : List Connection) (r : Device) → s < 2147483648 → m ≡ mask (closes_at s) d.connections → cs ≡ map (connection_ticked s) d.connections → r ≡ sweep_of (advanced d reading cs) → ◌≡◌ {A = Ticked} (record { device = r; answer = ticks.Closed m }) (tick_of d reading)
+  passed : s < 2147483648 → tick_of d reading ≡ record { device = sweep_of (advanced d reading (map (connection_ticked s) d.connections)); answer = ticks.Closed (mask (closes_at s) d.connections) }
   unfolding tick_step
-  tick_done m cs r h em ec er = rw (← e, lt-leb _ _ h, em, er, ec)
+  passed h = rw (← e, lt-leb _ _ h)
+
+  pub tick_back : 2147483648 ≤ s → d ≡ (tick_of d reading).device
+  tick_back h = sym (ap (λ (t : Ticked). t.device) (back h))
+
+  pub back_told : 2147483648 ≤ s → ticks.ClockBack ≡ (tick_of d reading).answer
+  back_told h = sym (ap (λ (t : Ticked). t.answer) (back h))
+
+  pub tick_done : (cs : List Connection) (r : Device) → s < 2147483648 → cs ≡ map (connection_ticked s) d.connections → r ≡ sweep_of (advanced d reading cs) → r ≡ (tick_of d reading).device
+  tick_done cs r h ec er = er ∙ rw ec (sym (ap (λ (t : Ticked). t.device) (passed h)))
+
+  pub done_told : (m : ℕ) → s < 2147483648 → m ≡ mask (closes_at s) d.connections → ticks.Closed m ≡ (tick_of d reading).answer
+  done_told m h em = rw em (sym (ap (λ (t : Ticked). t.answer) (passed h)))
 
 -- a tick that goes back hands back the device as it was
 pub back_same : (d : Device) (reading : ℕ) (k : Ticked) → k ≡ tick_of d reading → k.answer ≡ ticks.ClockBack → k.device ≡ d

@@ -1,9 +1,8 @@
-// The device's state, passed by value and handed back: its connections, subscriptions, mutes, locks and reset mechanism.
+// The device's state: its connections, subscriptions, mutes, locks and reset mechanism.
 #![tactic(auto)]
 
 ghost use Rattle.std.specs.Prelude.{◌≡◌, ◌<◌, true, slice_set};
 ghost use Rattle.connection.specs.State.{closed};
-ghost use Rattle.device.specs.Setters.{with_connections};
 ghost use Rattle.device.specs.State.{fresh_of, open_of, sweep_of, closing_of, heard_at, beating_at};
 ghost use Rattle.device.specs.Obeys.{device_obeys};
 ghost use Rattle.device.specs.Kept.{RulesKept, FailuresChangeNothing};
@@ -72,16 +71,15 @@ fn since(reading: u32, last: u32) -> u32
     std::num::wrapping_sub_u32(reading, last)
 }
 
-// The connections with n closed; a number past the last closes none.
+// Connection n is closed; a number past the last closes none.
 #[tactic(auto, using(laws::proofs::Tables::length_mapped, crate::proofs::Times::shut_out))]
-fn shut(mut connections: [Connection; 8], n: u8) -> [Connection; 8]
-    ensures { result ≡ slice_set connections n closed }
+fn shut(connections: &mut [Connection; 8], n: u8)
+    ensures { connections.new ≡ slice_set connections.old n closed }
 {
     let at = n as usize;
     if at < connection::CONNECTIONS {
         connections[at] = Connection::CLOSED;
     }
-    connections
 }
 
 impl Device {
@@ -106,153 +104,92 @@ impl Device {
 
     // The record rules hold.
     #[tactic(auto, unfolding(crate::specs::Obeys::device_obeys))]
-    pub fn obeys(self) -> bool
-        ensures { result ≡ device_obeys self }
+    pub fn obeys(&self) -> bool
+        ensures { result ≡ device_obeys self.now }
     {
-        let connections = self.connections;
-        let subscriptions = self.subscriptions;
-        let mutes = self.mutes;
-        let holders = self.holders;
-        let a = connection::all_obey(connections);
-        let b = subscription::all_obey(subscriptions, connections);
-        let d = objects::all_mute_values(mutes);
-        let e = holders::all_obey(holders, connections);
-        let mechanism = self.mechanism;
-        let f = mechanism.obeys();
+        let a = connection::all_obey(&self.connections);
+        let b = subscription::all_obey(&self.subscriptions, &self.connections);
+        let d = objects::all_mute_values(&self.mutes);
+        let e = holders::all_obey(&self.holders, &self.connections);
+        let f = self.mechanism.obeys();
         a & b & d & e & f
     }
 
     // The lowest free number is opened.
-    #[tactic(auto, using(laws::proofs::Tables::length_mapped, crate::proofs::Times::open_full, crate::proofs::Times::open_done))]
-    pub fn open(mut self) -> Opened
-        ensures { result ≡ open_of self }
+    #[tactic(auto, using(laws::proofs::Tables::length_mapped, crate::proofs::Times::open_full, crate::proofs::Times::open_done, crate::proofs::Times::told_full, crate::proofs::Times::told_number))]
+    pub fn open(&mut self) -> Opening
+        ensures device { self.new ≡ (open_of self.old).device }
+        ensures answer { result ≡ (open_of self.old).answer }
     {
-        let mut connections = self.connections;
-        let n = connection::lowest_free(connections);
+        let n = connection::lowest_free(&self.connections);
         if n >= connection::CONNECTIONS {
-            return Opened {
-                device: self,
-                answer: Opening::Full,
-            };
+            return Opening::Full;
         }
-        connections[n] = Connection::OPENED;
-        self.connections = connections;
-        Opened {
-            device: self,
-            answer: Opening::Number(n as u8),
-        }
+        self.connections[n] = Connection::OPENED;
+        Opening::Number(n as u8)
     }
 
-    // Built anew: a record with one element written in its place is kept in memory whole.
-    fn with_connections(self, connections: [Connection; 8]) -> Device
-        ensures { result ≡ with_connections self connections }
-    {
-        let subscriptions = self.subscriptions;
-        let mutes = self.mutes;
-        let holders = self.holders;
-        let mechanism = self.mechanism;
-        Device {
-            reading: self.reading,
-            connections,
-            subscriptions,
-            mutes,
-            holders,
-            mechanism,
-        }
-    }
-
-    // With these connections, whatever belongs to one that is not open is freed.
+    // Whatever belongs to a connection that is not open is freed.
     #[tactic(auto, using(crate::proofs::Times::swept_all))]
-    fn swept(self, connections: [Connection; 8]) -> Device
-        ensures { result ≡ sweep_of (with_connections self connections) }
+    fn sweep(&mut self)
+        ensures { self.new ≡ sweep_of self.old }
     {
-        let entries = self.subscriptions;
-        let subscriptions = subscription::all_swept(entries, connections);
-        let locks = self.holders;
-        let kept = holders::all_swept(locks, connections);
-        let mutes = self.mutes;
-        let mechanism = self.mechanism;
-        Device {
-            reading: self.reading,
-            connections,
-            subscriptions,
-            mutes,
-            holders: kept,
-            mechanism,
-        }
+        subscription::all_swept(&mut self.subscriptions, &self.connections);
+        holders::all_swept(&mut self.holders, &self.connections);
     }
 
     // Whatever is said of it, connection n is not open afterwards, and nothing of it is left.
-    #[tactic(auto, using(crate::proofs::Times::close_not, crate::proofs::Times::close_done))]
-    pub fn close(mut self, n: u8) -> Closed
-        ensures { result ≡ closing_of self n }
+    #[tactic(auto, using(crate::proofs::Times::close_left, crate::proofs::Times::close_not, crate::proofs::Times::close_done))]
+    pub fn close(&mut self, n: u8) -> Closing
+        ensures device { self.new ≡ (closing_of self.old n).device }
+        ensures answer { result ≡ (closing_of self.old n).answer }
     {
-        let connections = self.connections;
-        let live = connection::live_at(connections, n);
-        let left = shut(connections, n);
-        self = self.swept(left);
+        let live = connection::live_at(&self.connections, n);
+        shut(&mut self.connections, n);
+        self.sweep();
         if live {
-            return Closed {
-                device: self,
-                answer: Closing::Done,
-            };
+            return Closing::Done;
         }
-        Closed {
-            device: self,
-            answer: Closing::NotOpen,
-        }
+        Closing::NotOpen
     }
 
     // Time passes, to `reading`: the rules leave every count room for its step.
-    #[tactic(auto, using(crate::proofs::Times::tick_back, crate::proofs::Times::tick_ready, crate::proofs::Times::tick_done))]
-    pub fn tick(mut self, reading: u32) -> Ticked
-        requires { device_obeys self ≡ true }
-        ensures { result ≡ tick_of self reading }
+    #[tactic(auto, using(crate::proofs::Times::tick_back, crate::proofs::Times::back_told, crate::proofs::Times::tick_done, crate::proofs::Times::done_told))]
+    pub fn tick(&mut self, reading: u32) -> Ticking
+        requires { device_obeys self.old ≡ true }
+        ensures device { self.new ≡ (tick_of self.old reading).device }
+        ensures answer { result ≡ (tick_of self.old reading).answer }
     {
-        let last = self.reading;
-        let step = since(reading, last);
+        let step = since(reading, self.reading);
         if step >= BACK {
-            return Ticked {
-                device: self,
-                answer: Ticking::ClockBack,
-            };
+            return Ticking::ClockBack;
         }
-        let connections = self.connections;
-        let mask = connection::closing(connections, step);
-        let next = connection::all_ticked(connections, step);
+        let mask = connection::closing(&self.connections, step);
+        connection::all_ticked(&mut self.connections, step);
         self.reading = reading;
-        let device = self.swept(next);
-        Ticked {
-            device,
-            answer: Ticking::Closed(mask),
-        }
+        self.sweep();
+        Ticking::Closed(mask)
     }
 
     // A sound message came on connection n.
     #[tactic(auto, using(laws::proofs::Tables::length_mapped, crate::proofs::Times::heard_in))]
-    pub fn heard(self, n: u8) -> Device
+    pub fn heard(&mut self, n: u8)
         requires { n < 8 }
-        ensures { result ≡ heard_at self n }
+        ensures { self.new ≡ heard_at self.old n }
     {
         let at = n as usize;
-        let mut connections = self.connections;
-        let c = connections[at];
-        connections[at] = c.heard();
-        self.with_connections(connections)
+        self.connections[at] = self.connections[at].heard();
     }
 
     // A keep-alive came on connection n and is answered.
     #[tactic(auto, using(laws::proofs::Tables::length_mapped, crate::proofs::Times::live_place, crate::proofs::Times::beating_not, crate::proofs::Times::beating_in))]
-    pub fn keep_alive(self, n: u8, h: Heartbeat) -> Device
-        ensures { result ≡ beating_at self n h }
+    pub fn keep_alive(&mut self, n: u8, h: Heartbeat)
+        ensures { self.new ≡ beating_at self.old n h }
     {
-        let mut connections = self.connections;
-        if connection::live_at(connections, n) {
+        if connection::live_at(&self.connections, n) {
             let at = n as usize;
-            let c = connections[at];
-            connections[at] = c.beating(h);
+            self.connections[at] = self.connections[at].beating(h);
         }
-        self.with_connections(connections)
     }
 }
 

@@ -9,19 +9,22 @@ use native.Mathlib.Omega.{arith}
 use lib.ListN.{length, take, drop, set, get_or, drop_of_length-le}
 use lib.Seq.{take_all}
 use borrow.Author.Tests.{eq-eqb}
-use Rattle.laws.proofs.Conds.{and_left}
+use Rattle.laws.specs.Lists.{any}
+use Rattle.laws.proofs.Conds.{and_left, either}
 use Rattle.octets.specs.Zeros.{zeros}
 use Rattle.area.specs.Area.{area_bytes, area_sound, part_cleared, closed_cleared, held_kept}
 use Rattle.area.proofs.Lies.{area_long}
-use Rattle.connection.specs.State.{closed, live_at}
+use Rattle.connection.specs.State.{closed, live_at, is_not_open}
 use Rattle.connection.specs.Obeys.{connection_obeys}
 use Rattle.connection.specs.declared.Connection.{Connection}
 use Rattle.device.specs.State.{open_of, lives_in}
 use Rattle.device.specs.Obeys.{device_obeys}
 use Rattle.device.specs.Time.{tick_of}
+use Rattle.device.specs.declared.Device.{Device}
 use Rattle.device.specs.declared.Opened.{Opened}
+use Rattle.device.specs.declared.Opening.{Opening}
 use Rattle.device.specs.declared.Opening.TheVariants as opening
-use Rattle.device.specs.declared.Ticked.{Ticked}
+use Rattle.device.specs.declared.Ticking.{Ticking}
 use Rattle.device.specs.declared.Ticking.TheVariants as ticking
 use Rattle.device.proofs.Times.{back_same}
 use Rattle.device.proofs.Keeps.{at_obeys}
@@ -85,21 +88,29 @@ pub clear_done : (area next : List ℕ) → length area ≡ area_bytes → next 
 unfolding clear_answer cleared_area
 clear_done area next h q = simp (eq-eqb (length area) area_bytes h) (refl, q ∙ ap zeros h)
 
--- k is the device ticked
-module _ (r : Record) (area : List ℕ) (reading : ℕ) (k : Ticked) (q : k ≡ tick_of r.device reading) where
+-- d and t are the device and the answer of the tick
+module _ (r : Record) (area : List ℕ) (reading : ℕ) (d : Device) (x : d ≡ (tick_of r.device reading).device) (t : Ticking) (y : t ≡ (tick_of r.device reading).answer) where
   abbrev After : Outcome
   After = ticked_by (tick_of r.device reading).answer r (tick_of r.device reading) area
 
-  pub tick_closed : (mask : ℕ) → k.answer ≡ ticking.Closed mask
-      → (lives : List Bool) (held next : List ℕ) → lives ≡ lives_in k.device → held ≡ held_kept lives r.held → next ≡ closed_cleared lives area
-      → outcome (0 ∷ mask ∷ []) (state_of k.device held) next [] ≡ After
+  pub tick_closed : (mask : ℕ) → t ≡ ticking.Closed mask
+      → (lives : List Bool) (held next : List ℕ) → lives ≡ lives_in d → held ≡ held_kept lives r.held → next ≡ closed_cleared lives area
+      → outcome (0 ∷ mask ∷ []) (state_of d held) next [] ≡ After
   unfolding ticked_by
-  tick_closed mask a lives held next x y z = rw (← q, a, y, z, x)
+  tick_closed mask a lives held next ex ey ez = rw (← y, a, ez, ey, ex, x)
 
-  -- what a refused tick hands back is the device that it was given
-  pub tick_back : k.answer ≡ ticking.ClockBack → outcome (clock_back ∷ []) (state_of k.device r.held) area [] ≡ After
+  -- a refused tick leaves the device as it was
+  pub tick_back : t ≡ ticking.ClockBack → outcome (clock_back ∷ []) (state_of d r.held) area [] ≡ After
   unfolding ticked_by
-  tick_back a = rw (back_same r.device reading k q a, ← q, a)
+  tick_back a = rw (← y, a, x, back_same r.device reading (tick_of r.device reading) refl (sym y ∙ a))
+
+-- where all connections are open, the device stays as it is
+full_same : (d : Device) → (open_of d).answer ≡ opening.Full → (open_of d).device ≡ d
+unfolding open_of
+full_same d a = either P (any is_not_open d.connections) _ _ (λ e. absurd (let z : ◌≡◌ {A = ℕ} 0 1 = cc in omega arith)) (λ e. refl) a
+  where
+    P : Opened → Type 0
+    P o = o.answer ≡ opening.Full → o.device ≡ d
 
 -- b is what the call that tests the record gave
 module _ (r : Record) (b : Bool) (tested : b ≡ record_obeys r) where
@@ -107,14 +118,15 @@ module _ (r : Record) (b : Bool) (tested : b ≡ record_obeys r) where
   unfolding open_call
   open_bad t = rw (← tested, t)
 
-  pub open_number : b ≡ true → (o : Opened) (n : ℕ) → o ≡ open_of r.device → o.answer ≡ opening.Number n
-      → outcome (0 ∷ n ∷ []) (state_of o.device r.held) [] [] ≡ open_call r
-  unfolding open_call opened_by
-  open_number t o n q a = rw (← tested, t, ← q, a)
+  -- d and o are the device and the answer of its opening
+  module _ (t : b ≡ true) (d : Device) (x : d ≡ (open_of r.device).device) (o : Opening) (y : o ≡ (open_of r.device).answer) where
+    pub open_number : (n : ℕ) → o ≡ opening.Number n → outcome (0 ∷ n ∷ []) (state_of d r.held) [] [] ≡ open_call r
+    unfolding open_call opened_by
+    open_number n a = rw (← tested, t, ← y, a, x)
 
-  pub open_full : b ≡ true → (o : Opened) → o ≡ open_of r.device → o.answer ≡ opening.Full → refused table_full r [] [] ≡ open_call r
-  unfolding open_call opened_by
-  open_full t o q a = rw (← tested, t, ← q, a)
+    pub open_full : o ≡ opening.Full → outcome (table_full ∷ []) (state_of d r.held) [] [] ≡ open_call r
+    unfolding open_call opened_by
+    open_full a = rw (← tested, t, ← y, a, x, full_same r.device (sym y ∙ a))
 
   pub close_bad : b ≡ false → (area : List ℕ) (n : ℕ) → refused bad_record r area [] ≡ close_call r area n
   unfolding close_call

@@ -1,7 +1,7 @@
 // The holders of the mutes' locks: 0 where none holds it, else connection + 1.
 #![tactic(auto)]
 
-ghost use Rattle.std.specs.Prelude.{◌≡◌, cond, map};
+ghost use Rattle.std.specs.Prelude.{◌≡◌, map};
 ghost use Rattle.laws.specs.Lists.{all};
 ghost use Rattle.holders.specs.Holders.{owner_of, is_other, holder_obeys, swept_holder};
 ghost use Rattle.holders.specs.Kept.{HoldersKept};
@@ -30,17 +30,22 @@ pub fn is_other(holder: u8, n: u8) -> bool
     !(holder == 0) & !(holder == own)
 }
 
-// `live` is whether its connection is open.
-#[tactic(auto, using(crate::proofs::Holds::held_kept, crate::proofs::Holds::held_gone))]
-fn swept(holder: u8, live: bool) -> u8
-    ensures { result ≡ cond live holder 0 }
+#[tactic(auto, using(crate::proofs::Holds::kept_none, crate::proofs::Holds::kept_some, crate::proofs::Holds::kept_gone))]
+fn swept(holder: u8, connections: &[Connection; 8]) -> u8
+    ensures { result ≡ swept_holder connections.now holder }
 {
-    if live { holder } else { 0 }
+    if holder == 0 {
+        return 0;
+    }
+    if connection::live_at(connections, holder - 1) {
+        return holder;
+    }
+    0
 }
 
 #[tactic(auto, using(crate::proofs::Holds::obeys_none, crate::proofs::Holds::obeys_past, crate::proofs::Holds::obeys_not, crate::proofs::Holds::obeys_more, laws::proofs::Loops::testing_none, laws::proofs::Loops::testing_end))]
-pub fn all_obey(holders: [u8; 8], connections: [Connection; 8]) -> bool
-    ensures { result ≡ all (holder_obeys connections) holders }
+pub fn all_obey(holders: &[u8; 8], connections: &[Connection; 8]) -> bool
+    ensures { result ≡ all (holder_obeys connections.now) holders.now }
 {
     let mut i: usize = 0;
     while i < HOLDERS {
@@ -62,25 +67,10 @@ pub fn all_obey(holders: [u8; 8], connections: [Connection; 8]) -> bool
     true
 }
 
-#[tactic(auto, using(crate::proofs::Holds::held_above, crate::proofs::Holds::held_place, crate::proofs::Holds::held_fits, crate::proofs::Holds::sweeps_in, crate::proofs::Holds::sweeps_out, laws::proofs::Loops::mapping_none, laws::proofs::Loops::mapping_all))]
-pub fn all_swept(holders: [u8; 8], connections: [Connection; 8]) -> [u8; 8]
-    ensures { result ≡ map (swept_holder connections) holders }
+pub fn all_swept(holders: &mut [u8; 8], connections: &[Connection; 8])
+    ensures { holders.new ≡ map (swept_holder connections.now) holders.old }
 {
-    let mut out = holders;
-    let mut i: usize = 0;
-    while i < HOLDERS {
-        let h = holders[i];
-        let at = h as usize;
-        if (0 < at) & (at <= connection::CONNECTIONS) {
-            let c = connections[at - 1];
-            out[i] = swept(h, c.live);
-            i += 1;
-        } else {
-            out[i] = 0;
-            i += 1;
-        }
-    }
-    out
+    arrays::map_in_place(holders, |h| swept(h, connections));
 }
 
 #[tactic(auto, using(crate::proofs::Keeps::holders_kept))]

@@ -1,11 +1,10 @@
-// The C boundary: every call of the endpoint, the datagram's, the reader's and the writer's, with numbers, slices and structs by value.
+// What C is handed: the structs of every call, and the calls that are lent no record.
 #![tactic(auto)]
 
 ghost use Rattle.std.specs.Prelude.{◌≡◌, ◌<◌};
 ghost use Rattle.numbers.specs.Kind.{kind_closed};
 ghost use Rattle.melorwyth.specs.Answers.{fault_in, length_in};
-ghost use Rattle.melorwyth.specs.Promises.{VersionHands, FreshHands, ClearHands, OpenHands, CloseHands, TickHands, DeliverHands};
-ghost use Rattle.melorwyth.specs.Promises.{TakeHands, DatagramHands, HandedTell};
+ghost use Rattle.melorwyth.specs.Promises.{VersionHands, FreshHands, ClearHands, HandedTell};
 ghost use Rattle.melorwyth.specs.Told.{NumbersTold};
 
 use answers::Numbers;
@@ -80,7 +79,7 @@ pub struct Reset {
 
 // The third number of a delivery: a closure's fault, or the length of a message's reply.
 #[tactic(auto, using(laws::proofs::Conds::tests), unfolding(crate::specs::Answers::fault_in))]
-fn fault_in(told: Numbers) -> u8
+pub fn fault_in(told: Numbers) -> u8
     requires { told.first ≡ kind_closed → told.third < 256 }
     ensures { result ≡ fault_in told }
 {
@@ -91,7 +90,7 @@ fn fault_in(told: Numbers) -> u8
 }
 
 #[tactic(auto, using(laws::proofs::Conds::tests), unfolding(crate::specs::Answers::length_in))]
-fn length_in(told: Numbers) -> usize
+pub fn length_in(told: Numbers) -> usize
     ensures { result ≡ length_in told }
 {
     if told.first == numbers::KIND_MESSAGE {
@@ -120,110 +119,6 @@ pub fn melorwyth_clear(area: &mut [u8]) -> Cleared
     let told = answer.numbers();
     Cleared {
         number: told.number,
-    }
-}
-
-#[tactic(auto, using(crate::proofs::Tellings::told), unfolding(crate::specs::Answers::opened_of))]
-pub fn melorwyth_open(state: Record) -> Opened
-    ensures { OpenHands state result }
-{
-    let done = state.open();
-    let next = done.state;
-    let answer = done.answer;
-    let told = answer.numbers();
-    Opened {
-        state: next,
-        number: told.number,
-        connection: told.first,
-    }
-}
-
-#[tactic(auto, using(crate::proofs::Tellings::told, crate::proofs::Tellings::area_told), unfolding(crate::specs::Answers::closed_of))]
-pub fn melorwyth_close(state: Record, area: &mut [u8], n: u8) -> Closed
-    ensures { CloseHands state area.old n result area.new }
-{
-    let done = state.close(area, n);
-    let next = done.state;
-    let answer = done.answer;
-    let told = answer.numbers();
-    Closed {
-        state: next,
-        number: told.number,
-    }
-}
-
-#[tactic(auto, using(crate::proofs::Tellings::told, crate::proofs::Tellings::area_told), unfolding(crate::specs::Answers::ticked_of))]
-pub fn melorwyth_tick(state: Record, area: &mut [u8], reading: u32) -> Ticked
-    ensures { TickHands state area.old reading result area.new }
-{
-    let done = state.tick(area, reading);
-    let next = done.state;
-    let answer = done.answer;
-    let told = answer.numbers();
-    Ticked {
-        state: next,
-        number: told.number,
-        closed: told.first,
-    }
-}
-
-#[tactic(auto, using(crate::proofs::Tellings::told, crate::proofs::Tellings::area_told, crate::proofs::Tellings::output_told), unfolding(crate::specs::Answers::delivered_of))]
-pub fn melorwyth_deliver(
-    state: Record,
-    area: &mut [u8],
-    n: u8,
-    piece: &[u8],
-    output: &mut [u8],
-) -> Delivered
-    ensures { DeliverHands state area.old n piece.now output.old result
-        area.new output.new }
-{
-    let done = state.deliver(area, n, piece, output);
-    let next = done.state;
-    let answer = done.answer;
-    let told = answer.numbers();
-    let fault = fault_in(told);
-    let length = length_in(told);
-    Delivered {
-        state: next,
-        number: told.number,
-        kind: told.first,
-        fault,
-        taken: told.second,
-        length,
-    }
-}
-
-#[tactic(auto, using(crate::proofs::Tellings::told, crate::proofs::Tellings::output_told), unfolding(crate::specs::Answers::taken_of))]
-pub fn melorwyth_take(state: Record, output: &mut [u8]) -> Taken
-    ensures { TakeHands state output.old result output.new }
-{
-    let done = state.take(output);
-    let next = done.state;
-    let answer = done.answer;
-    let told = answer.numbers();
-    let connection = told.second as u8;
-    Taken {
-        state: next,
-        number: told.number,
-        kind: told.first,
-        connection,
-        length: told.third,
-    }
-}
-
-#[tactic(auto, using(crate::proofs::Tellings::told, crate::proofs::Tellings::area_told), unfolding(crate::specs::Answers::reset_of))]
-pub fn melorwyth_datagram(state: Record, area: &mut [u8], datagram: &[u8]) -> Reset
-    ensures { DatagramHands state area.old datagram.now result area.new }
-{
-    let done = reset::datagram(state, area, datagram);
-    let next = done.state;
-    let answer = done.answer;
-    let told = answer.numbers();
-    Reset {
-        state: next,
-        number: told.number,
-        reset: told.first,
     }
 }
 

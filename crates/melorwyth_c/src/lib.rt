@@ -1,4 +1,5 @@
-// The C boundary: each call of the library melorwyth, with the same clauses. This crate is the archive that C and Rust link.
+// The C boundary, and the archive that C and Rust link. A call that is passed the record changes it in place and hands it
+// back at its one exit, here and not in melorwyth: through another call the record would be copied once more.
 #![tactic(auto)]
 
 ghost use Rattle.melorwyth.specs.Promises.{VersionHands, FreshHands, ClearHands, OpenHands, CloseHands, TickHands};
@@ -30,30 +31,51 @@ pub extern "C" fn melorwyth_clear(area: &mut [u8]) -> Cleared
     melorwyth::melorwyth_clear(area)
 }
 
+#[tactic(auto, using(melorwyth::proofs::Tellings::told), unfolding(melorwyth::specs::Answers::opened_of))]
 #[unsafe(no_mangle)]
-pub extern "C" fn melorwyth_open(state: Record) -> Opened
+pub extern "C" fn melorwyth_open(mut state: Record) -> Opened
     ensures { OpenHands state result }
 {
-    melorwyth::melorwyth_open(state)
+    let answer = state.try_open();
+    let told = answer.numbers();
+    Opened {
+        state,
+        number: told.number,
+        connection: told.first,
+    }
 }
 
+#[tactic(auto, using(melorwyth::proofs::Tellings::told, melorwyth::proofs::Tellings::area_told), unfolding(melorwyth::specs::Answers::closed_of))]
 #[unsafe(no_mangle)]
-pub extern "C" fn melorwyth_close(state: Record, area: &mut [u8], n: u8) -> Closed
+pub extern "C" fn melorwyth_close(mut state: Record, area: &mut [u8], n: u8) -> Closed
     ensures { CloseHands state area.old n result area.new }
 {
-    melorwyth::melorwyth_close(state, area, n)
+    let answer = state.try_close(area, n);
+    let told = answer.numbers();
+    Closed {
+        state,
+        number: told.number,
+    }
 }
 
+#[tactic(auto, using(melorwyth::proofs::Tellings::told, melorwyth::proofs::Tellings::area_told), unfolding(melorwyth::specs::Answers::ticked_of))]
 #[unsafe(no_mangle)]
-pub extern "C" fn melorwyth_tick(state: Record, area: &mut [u8], reading: u32) -> Ticked
+pub extern "C" fn melorwyth_tick(mut state: Record, area: &mut [u8], reading: u32) -> Ticked
     ensures { TickHands state area.old reading result area.new }
 {
-    melorwyth::melorwyth_tick(state, area, reading)
+    let answer = state.try_tick(area, reading);
+    let told = answer.numbers();
+    Ticked {
+        state,
+        number: told.number,
+        closed: told.first,
+    }
 }
 
+#[tactic(auto, using(melorwyth::proofs::Tellings::told, melorwyth::proofs::Tellings::area_told, melorwyth::proofs::Tellings::output_told), unfolding(melorwyth::specs::Answers::delivered_of))]
 #[unsafe(no_mangle)]
 pub extern "C" fn melorwyth_deliver(
-    state: Record,
+    mut state: Record,
     area: &mut [u8],
     n: u8,
     piece: &[u8],
@@ -62,21 +84,49 @@ pub extern "C" fn melorwyth_deliver(
     ensures { DeliverHands state area.old n piece.now output.old result
         area.new output.new }
 {
-    melorwyth::melorwyth_deliver(state, area, n, piece, output)
+    let answer = state.try_deliver(area, n, piece, output);
+    let told = answer.numbers();
+    let fault = melorwyth::fault_in(told);
+    let length = melorwyth::length_in(told);
+    Delivered {
+        state,
+        number: told.number,
+        kind: told.first,
+        fault,
+        taken: told.second,
+        length,
+    }
 }
 
+#[tactic(auto, using(melorwyth::proofs::Tellings::told, melorwyth::proofs::Tellings::output_told), unfolding(melorwyth::specs::Answers::taken_of))]
 #[unsafe(no_mangle)]
-pub extern "C" fn melorwyth_take(state: Record, output: &mut [u8]) -> Taken
+pub extern "C" fn melorwyth_take(mut state: Record, output: &mut [u8]) -> Taken
     ensures { TakeHands state output.old result output.new }
 {
-    melorwyth::melorwyth_take(state, output)
+    let answer = state.try_take(output);
+    let told = answer.numbers();
+    let connection = told.second as u8;
+    Taken {
+        state,
+        number: told.number,
+        kind: told.first,
+        connection,
+        length: told.third,
+    }
 }
 
+#[tactic(auto, using(melorwyth::proofs::Tellings::told, melorwyth::proofs::Tellings::area_told), unfolding(melorwyth::specs::Answers::reset_of))]
 #[unsafe(no_mangle)]
-pub extern "C" fn melorwyth_datagram(state: Record, area: &mut [u8], datagram: &[u8]) -> Reset
+pub extern "C" fn melorwyth_datagram(mut state: Record, area: &mut [u8], datagram: &[u8]) -> Reset
     ensures { DatagramHands state area.old datagram.now result area.new }
 {
-    melorwyth::melorwyth_datagram(state, area, datagram)
+    let answer = reset::try_datagram(&mut state, area, datagram);
+    let told = answer.numbers();
+    Reset {
+        state,
+        number: told.number,
+        reset: told.first,
+    }
 }
 
 #[unsafe(no_mangle)]

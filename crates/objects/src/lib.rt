@@ -261,8 +261,8 @@ pub fn is_mute_value(v: u8) -> bool
 }
 
 #[tactic(auto, using(laws::proofs::Loops::testing_none, laws::proofs::Loops::testing_more, laws::proofs::Loops::testing_not, laws::proofs::Loops::testing_end))]
-pub fn all_mute_values(mutes: [u8; 8]) -> bool
-    ensures { result ≡ all is_mute_value mutes }
+pub fn all_mute_values(mutes: &[u8; 8]) -> bool
+    ensures { result ≡ all is_mute_value mutes.now }
 {
     let mut i: usize = 0;
     while i < MUTES {

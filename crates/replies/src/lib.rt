@@ -57,9 +57,9 @@ pub fn put_response(out: &mut [u8], at: usize, handle: u32, answer: Answer) -> u
 
 // Behind its count.
 #[tactic(auto, using(crate::proofs::Puts::context_stores))]
-fn put_context(out: &mut [u8], count: u8, context: [u8; 64])
+fn put_context(out: &mut [u8], count: u8, context: &[u8; 64])
     requires { (count ≤ greatest_context) × (103 ≤ length out.old) }
-    ensures { out.new ≡ sets out.old 23 (bytes16 count ++ take count context) }
+    ensures { out.new ≡ sets out.old 23 (bytes16 count ++ take count context.now) }
 {
     let n = count as usize;
     octets::put16(out, CONTEXT_COUNT, count as u16);
@@ -67,24 +67,23 @@ fn put_context(out: &mut [u8], count: u8, context: [u8; 64])
 }
 
 #[tactic(auto, using(crate::proofs::Puts::subscriber_stores))]
-fn put_subscriber(out: &mut [u8], s: Subscription)
-    requires { (s.context_count ≤ greatest_context) × (103 ≤ length out.old) }
-    ensures { out.new ≡ sets out.old 10 (subscriber_bytes s) }
+fn put_subscriber(out: &mut [u8], s: &Subscription)
+    requires { (s.now.context_count ≤ greatest_context) × (103 ≤ length out.old) }
+    ensures { out.new ≡ sets out.old 10 (subscriber_bytes s.now) }
 {
     let n = s.context_count as usize;
-    let context = s.context;
     octets::put32(out, frame::HEADER_END, (NOTIFICATION_ENTRY + n) as u32);
     octets::put32(out, TARGET, s.object);
     octets::put32(out, METHOD, s.method);
     octets::put8(out, COUNT, 2);
-    put_context(out, s.context_count, context);
+    put_context(out, s.context_count, &s.context);
 }
 
 // From the end of the context on.
 #[tactic(auto, using(crate::proofs::Puts::change_stores))]
-fn put_change(out: &mut [u8], at: usize, s: Subscription, value: u8)
+fn put_change(out: &mut [u8], at: usize, s: &Subscription, value: u8)
     requires { at + 14 ≤ length out.old }
-    ensures { out.new ≡ sets out.old at (change_bytes s value) }
+    ensures { out.new ≡ sets out.old at (change_bytes s.now value) }
 {
     octets::put32(out, at, s.emitter);
     octets::put32(out, at + EVENT, s.event);
@@ -95,10 +94,10 @@ fn put_change(out: &mut [u8], at: usize, s: Subscription, value: u8)
 
 // The notification of a mute's value to a subscriber, at the output's front: its length.
 #[tactic(auto, using(crate::proofs::Puts::length_notification, crate::proofs::Puts::notification_stores))]
-pub fn put_notification(out: &mut [u8], s: Subscription, value: u8) -> usize
-    requires { (s.context_count ≤ greatest_context) × (103 ≤ length out.old) }
-    ensures { (result ≡ length (notification_bytes s value))
-        × (out.new ≡ at_front (notification_bytes s value) out.old) }
+pub fn put_notification(out: &mut [u8], s: &Subscription, value: u8) -> usize
+    requires { (s.now.context_count ≤ greatest_context) × (103 ≤ length out.old) }
+    ensures { (result ≡ length (notification_bytes s.now value))
+        × (out.new ≡ at_front (notification_bytes s.now value) out.old) }
 {
     let n = s.context_count as usize;
     let length = NOTIFICATION_LENGTH + n;

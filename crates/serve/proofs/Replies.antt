@@ -5,8 +5,8 @@ use mathlib.Core.Bool.{Bool, true, false, cond}
 use mathlib.Core.List.{List, []}
 use native.Mathlib.Omega.{arith}
 use lib.Dec.{eqb}
-use lib.ListN.{length, drop, get_or, set, length-drop}
-use lib.Seq.{sets, take-length, set-get_or}
+use lib.ListN.{length, drop, length-drop}
+use lib.Seq.{sets, take-length}
 use borrow.Author.Tests.{eq-eqb, ne_eqb, eqb-true, eqb-false}
 use Rattle.laws.proofs.Stores.{sets_comm}
 use Rattle.frame.specs.Limits.{header_end, response, keep_alive}
@@ -18,16 +18,8 @@ use Rattle.frame.proofs.Entries.{entry_at_lem, entries_first, least_command_lem}
 use Rattle.frame.proofs.Headers.{sound_header}
 use Rattle.layout.specs.Message.{head_bytes, message, at_front}
 use Rattle.layout.proofs.Messages.{length_head, length_message, put_whole}
-use Rattle.mechanism.specs.declared.Mechanism.{Mechanism}
-use Rattle.connection.specs.Supervision.{sent_of}
-use Rattle.connection.specs.declared.Connection.{Connection}
-use Rattle.subscription.specs.declared.Subscription.{Subscription}
-use Rattle.device.specs.Setters.{with_connections}
 use Rattle.device.specs.State.{sent_at}
 use Rattle.device.specs.declared.Device.{Device}
-use Rattle.device.proofs.Times.{sent_in_lem}
-use Rattle.command.specs.declared.channels.Channels.{Channels}
-use Rattle.serve.specs.Parts.{parts_in}
 use Rattle.serve.specs.Serve.{last_of, responses_of}
 use Rattle.serve.proofs.Serves.{responses_few}
 use Rattle.serve.specs.Sound.{ruled, commands_of}
@@ -90,41 +82,35 @@ pub front_none : (out : List ℕ) → at_front [] out ≡ out
 unfolding at_front
 front_none out = refl
 
--- the parts that the commands left, their connection and the bytes, as one outcome
-module _ (d : Device) (n kind count : ℕ) (t : List ℕ) (c : Channels) (ss : List Subscription) (m : Mechanism) (h : n < 8) (l : length d.connections ≡ 8)
-    (last : parts_in d c ss m ≡ last_of count d n kind t)
-  where
-    abbrev told : List ℕ
-    told = responses_of count d n kind t
+-- the device that the commands left and the bytes, as one outcome
+module _ (d : Device) (n kind count : ℕ) (t : List ℕ) {last : Device} (ed : last ≡ last_of count d n kind t) where
+  abbrev told : List ℕ
+  told = responses_of count d n kind t
 
-    abbrev next : Connection → Device
-    next x = with_connections (parts_in d c ss m) (set d.connections n x)
-
-    pub commands_end : (x a : Connection) (end len : ℕ) (out b z : List ℕ) → count ≤ 119 → 10 + count * 22 ≤ length out
-        → end ≡ cond (eqb kind 0) 10 (10 + length told)
-        → b ≡ cond (eqb kind 0) out (sets out 10 told)
-        → x ≡ cond (eqb kind 0) (get_or d.connections n a) (sent_of (get_or d.connections n a))
-        → len ≡ cond (eqb kind 0) 0 end
-        → z ≡ cond (eqb kind 0) b (sets b 0 (head_bytes response count (end - 1)))
-        → (next x ≡ (commands_of d n kind count t).device) × (len ≡ length (commands_of d n kind count t).reply) × (z ≡ at_front (commands_of d n kind count t).reply out)
-    commands_end x a end len out b z few room ee eb ex el ez = go (eqb kind 0) refl
-      where
-        go : (k : Bool) → eqb kind 0 ≡ k
-            → (next x ≡ (commands_of d n kind count t).device) × (len ≡ length (commands_of d n kind count t).reply) × (z ≡ at_front (commands_of d n kind count t).reply out)
-        go true k =
-            let xa : x ≡ get_or d.connections n a = rw k at ex in
-            let same : set d.connections n x ≡ d.connections = ap (set d.connections n) xa ∙ set-get_or d.connections n a in
-            let zb : z ≡ b = rw k at ez in
-            let bo : b ≡ out = rw k at eb in
-            rw (commands_silent d n kind count t (eqb-true kind 0 k)) (ap (with_connections (parts_in d c ss m)) same ∙ last, rw k at el, zb ∙ bo ∙ sym (front_none out))
-        go false k =
-            let xs : x ≡ sent_of (get_or d.connections n a) = rw k at ex in
-            let en : end ≡ 10 + length told = rw k at ee in
-            let le : len ≡ end = rw k at el in
-            let bs : b ≡ sets out 10 told = rw k at eb in
-            let zs : z ≡ sets b 0 (head_bytes response count (end - 1)) = rw k at ez in
-            rw (commands_told d n kind count t (eqb-false kind 0 k)) (
-              sent_in_lem (parts_in d c ss m) n x a l h xs (next x) refl ∙ ap (λ (y : Device). sent_at y n) last,
-              omega (arith, length_message response count told),
-              reply_stores count end out told z en (omega (arith, responses_few count d n kind t)) (zs ∙ ap (λ (y : List ℕ). sets y 0 (head_bytes response count (end - 1))) bs),
-            )
+  pub commands_end : {x : Device} {end len : ℕ} (out : List ℕ) {b z : List ℕ} → count ≤ 119 → 10 + count * 22 ≤ length out
+      → end ≡ cond (eqb kind 0) 10 (10 + length told)
+      → b ≡ cond (eqb kind 0) out (sets out 10 told)
+      → x ≡ cond (eqb kind 0) last (sent_at last n)
+      → len ≡ cond (eqb kind 0) 0 end
+      → z ≡ cond (eqb kind 0) b (sets b 0 (head_bytes response count (end - 1)))
+      → (x ≡ (commands_of d n kind count t).device) × (len ≡ length (commands_of d n kind count t).reply) × (z ≡ at_front (commands_of d n kind count t).reply out)
+  commands_end {x} {end} {len} out {b} {z} few room ee eb ex el ez = go (eqb kind 0) refl
+    where
+      go : (k : Bool) → eqb kind 0 ≡ k
+          → (x ≡ (commands_of d n kind count t).device) × (len ≡ length (commands_of d n kind count t).reply) × (z ≡ at_front (commands_of d n kind count t).reply out)
+      go true k =
+          let xa : x ≡ last = rw k at ex in
+          let zb : z ≡ b = rw k at ez in
+          let bo : b ≡ out = rw k at eb in
+          rw (commands_silent d n kind count t (eqb-true kind 0 k)) (xa ∙ ed, rw k at el, zb ∙ bo ∙ sym (front_none out))
+      go false k =
+          let xs : x ≡ sent_at last n = rw k at ex in
+          let en : end ≡ 10 + length told = rw k at ee in
+          let le : len ≡ end = rw k at el in
+          let bs : b ≡ sets out 10 told = rw k at eb in
+          let zs : z ≡ sets b 0 (head_bytes response count (end - 1)) = rw k at ez in
+          rw (commands_told d n kind count t (eqb-false kind 0 k)) (
+            xs ∙ ap (λ (y : Device). sent_at y n) ed,
+            omega (arith, length_message response count told),
+            reply_stores count end out told z en (omega (arith, responses_few count d n kind t)) (zs ∙ ap (λ (y : List ℕ). sets y 0 (head_bytes response count (end - 1))) bs),
+          )

@@ -15,15 +15,11 @@ use Rattle.frame.specs.Limits.{least_response}
 use Rattle.frame.specs.Entry.{entry_size, entries_fill}
 use Rattle.frame.proofs.Entries.{entry_at_lem, entries_first, least_command_lem}
 use Rattle.fields.specs.Fields.{command_of}
-use Rattle.mechanism.specs.declared.Mechanism.{Mechanism}
-use Rattle.subscription.specs.declared.Subscription.{Subscription}
 use Rattle.objects.specs.declared.Answer.{Answer}
 use Rattle.device.specs.Run.{unchanged}
 use Rattle.device.specs.declared.Device.{Device}
 use Rattle.device.specs.Run.{Ran}
-use Rattle.command.specs.declared.channels.Channels.{Channels}
 use Rattle.replies.specs.Bytes.{response_bytes}
-use Rattle.serve.specs.Parts.{parts_in}
 use Rattle.replies.proofs.Puts.{length_response}
 use Rattle.serve.specs.Serve.{ran_with, ran_first, last_of, response_to, responses_of}
 use Rattle.serve.proofs.Answers.{Fitting, run_fits}
@@ -153,37 +149,24 @@ module _ (n kind count : ℕ) (body first : List ℕ) (fresh : Device) (out : Li
         go true = refl
         go false = refl
 
--- the loop over the parts that commands touch: whatever the rest of the device is
-pub record ServingParts (n kind count : ℕ) (body first : List ℕ) (c₀ : Channels) (ss₀ : List Subscription) (m₀ : Mechanism) (out : List ℕ) (c : Channels) (ss : List Subscription) (m : Mechanism) (t : List ℕ) (left at : ℕ) : Type 0 where
-  pub each : (d : Device) → Serving n kind count body first (parts_in d c₀ ss₀ m₀) out (parts_in d c ss m) t left at
-
-pub parts_none : (n kind count : ℕ) (body out : List ℕ) (c : Channels) (ss : List Subscription) (m : Mechanism) → entries_fill count kind body ≡ true → 10 + count * 22 ≤ length out
-    → ServingParts n kind count body out c ss m out c ss m body count 10
-parts_none n kind count body out c ss m e h = record { each = λ d. serving_none n kind count body out (parts_in d c ss m) e h }
-
 -- a command's answer has room
 pub answer_fits : (d e : Device) (n kind : ℕ) (t : List ℕ) (answer : Answer) → unchanged e answer ≡ ran_first d n kind t → answer.length ≤ 12
 answer_fits d e n kind t answer s = subst (λ (r : Ran). r.answer.length ≤ 12) (sym s) (first_fits d n kind t).low
 
-module _ (n kind count : ℕ) (body first : List ℕ) (c₀ : Channels) (ss₀ : List Subscription) (m₀ : Mechanism) (out : List ℕ) (c : Channels) (ss : List Subscription) (m : Mechanism) (t : List ℕ) (left at : ℕ)
-    (w : ServingParts n kind count body first c₀ ss₀ m₀ out c ss m t left at)
-  where
-    pub parts_more : (c' : Channels) (ss' : List Subscription) (m' : Mechanism) (answer : Answer) (next : List ℕ) (after : ℕ) → 0 < left
-        → ((d : Device) → unchanged (parts_in d c' ss' m') answer ≡ ran_first (parts_in d c ss m) n kind t)
-        → after ≡ cond (eqb kind 0) at (at + (least_response + answer.length))
-        → next ≡ cond (eqb kind 0) out (sets out at (response_bytes (command_of (take (entry_size kind t) t)).handle answer))
-        → ServingParts n kind count body first c₀ ss₀ m₀ next c' ss' m' (drop (entry_size kind t) t) (left - 1) after
-    unfolding response_to
-    parts_more c' ss' m' answer next after h step ea en = record { each = go }
-      where
-        go : (d : Device) → Serving n kind count body first (parts_in d c₀ ss₀ m₀) next (parts_in d c' ss' m') (drop (entry_size kind t) t) (left - 1) after
-        go d =
-            let s = step d in
-            let a : answer ≡ (ran_first (parts_in d c ss m) n kind t).answer = ap (λ (r : Ran). r.answer) s in
-            subst (λ (r : Ran). Serving n kind count body first (parts_in d c₀ ss₀ m₀) next r.device (drop (entry_size kind t) t) (left - 1) after) (sym s)
-            (serving_more n kind count body first (parts_in d c₀ ss₀ m₀) out (parts_in d c ss m) t left at (w.each d) next after h
-            (ea ∙ ap (λ (x : Answer). cond (eqb kind 0) at (at + (least_response + x.length))) a)
-            (en ∙ ap (λ (x : Answer). cond (eqb kind 0) out (sets out at (response_bytes (command_of (take (entry_size kind t) t)).handle x))) a))
+-- one command run and answered
+pub serving_step : {n kind count : ℕ} {body first : List ℕ} {fresh : Device} {out : List ℕ} {d : Device} {t : List ℕ} {left at : ℕ} → Serving n kind count body first fresh out d t left at
+    → 0 < left → {d' : Device} {answer : Answer} → unchanged d' answer ≡ ran_first d n kind t → {handle : ℕ} → handle ≡ (command_of (take (entry_size kind t) t)).handle → {after : ℕ}
+    → after ≡ cond (eqb kind 0) at (at + (least_response + answer.length)) → {next : List ℕ}
+    → next ≡ cond (eqb kind 0) out (sets out at (response_bytes handle answer))
+    → Serving n kind count body first fresh next d' (drop (entry_size kind t) t) (left - 1) after
+unfolding response_to
+serving_step {n} {kind} {count} {body} {first} {fresh} {out} {d} {t} {left} {at} w h {d'} {answer} s {handle} eh {after} ea {next} en =
+    let a : answer ≡ (ran_first d n kind t).answer = ap (λ (r : Ran). r.answer) s in
+    subst (λ (r : Ran). Serving n kind count body first fresh next r.device (drop (entry_size kind t) t) (left - 1) after) (sym s)
+    (serving_more n kind count body first fresh out d t left at w next after h
+    (ea ∙ ap (λ (x : Answer). cond (eqb kind 0) at (at + (least_response + x.length))) a)
+    (en ∙ ap (λ (k : ℕ). cond (eqb kind 0) out (sets out at (response_bytes k answer))) eh
+    ∙ ap (λ (x : Answer). cond (eqb kind 0) out (sets out at (response_bytes (command_of (take (entry_size kind t) t)).handle x))) a))
 
 -- each response has at most 22 bytes
 pub responses_few : (k : ℕ) (d : Device) (n kind : ℕ) (t : List ℕ) → length (responses_of k d n kind t) ≤ k * 22

@@ -1,4 +1,3 @@
-pub mod Parts
 pub mod Serve
 pub mod Sound
 pub mod Kept

@@ -10,23 +10,28 @@ use lib.Dec.{leb, ltb, eqb}
 use lib.ListN.{length, set, get_or, take, drop, replicate, length-take, length-drop, drop_of_length-le}
 use lib.Seq.{sets, take_all, take-suc, length-take-le, drop-nil, drop-append-le, drop-append-add}
 use Rattle.laws.proofs.Conds.{and_left, and_right}
-use Rattle.laws.proofs.Loops.{Mapping, mapping_more}
+use Rattle.laws.proofs.Tables.{get_d_any}
 use Rattle.laws.proofs.Stores.{sets_front}
 use Rattle.octets.specs.Zeros.{zeros, all_zero}
 use Rattle.octets.proofs.Scans.{and_true, and_false, and_assoc, drop_zeros, all_zero_append, all_zero_zeros}
 use Rattle.objects.specs.Tests.{context_given}
-use Rattle.connection.proofs.Times.{live_out, live_in}
+use Rattle.connection.specs.State.{live_at}
 use Rattle.connection.specs.declared.Connection.{Connection}
 use Rattle.subscription.specs.Setters.{with_waiting}
-use Rattle.subscription.specs.State.{free, is_waiting, is_twin, marked_of, swept_of}
+use Rattle.subscription.specs.State.{free, is_waiting, is_twin, marked_of, told_of, swept_of}
 use Rattle.subscription.specs.Arguments.{context_held}
 use Rattle.subscription.specs.Obeys.{is_free, is_context_kept}
-use Rattle.subscription.specs.Scaffold.{free_by, sound_by, sound_as, swept_by}
+use Rattle.subscription.specs.Scaffold.{free_by, sound_by, sound_as}
 use Rattle.subscription.specs.declared.Subscription.{Subscription}
 
 pub waiting_is : (t : Subscription) (b : Bool) → t.waiting ≡ b → is_waiting t ≡ b
 unfolding is_waiting
 waiting_is t b e = e
+
+-- at the place where the search stops
+pub waits_here : (l : List Subscription) (i : ℕ) (d : Subscription) → length l ≡ 32 → (get_or l i d).waiting ≡ true → i < 32 → is_waiting (get_or l i free) ≡ true
+unfolding is_waiting
+waits_here l i d e w h = let k : i < length l = omega arith in sym (ap (λ (s : Subscription). s.waiting) (get_d_any l i d free k)) ∙ w
 
 module _ (emitter : ℕ) (s : Subscription) where
   pub marked_now : s.used && eqb s.emitter emitter ≡ true → with_waiting s true ≡ marked_of emitter s
@@ -37,26 +42,18 @@ module _ (emitter : ℕ) (s : Subscription) where
   unfolding marked_of
   marked_not e = rw e
 
-module _ (s : Subscription) (live : Bool) where
-  pub swept_gone : s.used && not live ≡ true → free ≡ swept_by live s
-  swept_gone t = rw t
+pub told_in : (l : List Subscription) (at : ℕ) (d : Subscription) → length l ≡ 32 → at < 32 → set l at (with_waiting (get_or l at d) false) ≡ set l at (told_of (get_or l at free))
+unfolding told_of
+told_in l at d e h = let k : at < length l = omega arith in ap (λ (s : Subscription). set l at (with_waiting s false)) (get_d_any l at d free k)
 
-  pub swept_kept : s.used && not live ≡ false → s ≡ swept_by live s
-  swept_kept t = rw t
-
--- the loop that sweeps the entries, at entry i
-module _ (cs : List Connection) {n i : ℕ} {l o : List Subscription} (d : Subscription) (m : Mapping (swept_of cs) n i l o) (k : i < n) (v : Subscription) where
-  pub sweeps_in : (e : Connection) → v ≡ swept_by (get_or cs (get_or o i d).connection e).live (get_or o i d) → (get_or o i d).connection < length cs → Mapping (swept_of cs) n (i + 1) l (set o i v)
+module _ (cs : List Connection) (s : Subscription) (live : Bool) (q : live ≡ live_at cs s.connection) where
+  pub swept_gone : s.used && not live ≡ true → free ≡ swept_of cs s
   unfolding swept_of
-  sweeps_in e q h =
-      let s = get_or o i d in
-      mapping_more d m (q ∙ ap (λ (live : Bool). swept_by live s) (live_in cs s.connection e h)) k
+  swept_gone t = rw (← q, t)
 
-  pub sweeps_past : v ≡ swept_by false (get_or o i d) → length cs ≡ 8 → 8 ≤ (get_or o i d).connection → Mapping (swept_of cs) n (i + 1) l (set o i v)
+  pub swept_kept : s.used && not live ≡ false → s ≡ swept_of cs s
   unfolding swept_of
-  sweeps_past q e h =
-      let s = get_or o i d in
-      mapping_more d m (q ∙ ap (λ (live : Bool). swept_by live s) (live_out cs s.connection e h)) k
+  swept_kept t = rw (← q, t)
 
 -- ---- entries compared
 pub twin_not : (s t : Subscription) → (s.emitter ≡ t.emitter → ⊥) → false ≡ is_twin s t

@@ -1,16 +1,16 @@
 // A subscription entry: who is told of which mute's changes.
 #![tactic(auto)]
 
-ghost use Rattle.std.specs.Prelude.{◌≡◌, cond, ◌&&◌, ◌||◌, map, ◌+◌, ◌≤◌, length};
+ghost use Rattle.std.specs.Prelude.{◌≡◌, true, cond, ◌&&◌, ◌||◌, map, ◌+◌, ◌<◌, ◌≤◌, length, slice_set, slice_index_or};
 ghost use Rattle.laws.specs.Lists.{all, all_pairs};
 ghost use Rattle.frame.specs.Limits.{greatest_context};
 ghost use Rattle.objects.specs.Tests.{context_given};
 ghost use Rattle.subscription.specs.Setters.{with_context, without_context};
-ghost use Rattle.subscription.specs.State.{is_twin, lowest_waiting, marked_of, told_of, swept_of};
+ghost use Rattle.subscription.specs.State.{free, is_twin, is_waiting, lowest_waiting, marked_of, told_of, swept_of};
 ghost use Rattle.subscription.specs.Arguments.{context_held, subscription_from, is_strange};
 ghost use Rattle.subscription.specs.Obeys.{is_free, is_context_kept, entry_obeys, apart};
 ghost use Rattle.subscription.specs.Kept.{EntriesKept};
-ghost use Rattle.subscription.specs.Scaffold.{free_by, sound_by, sound_as, swept_by};
+ghost use Rattle.subscription.specs.Scaffold.{free_by, sound_by, sound_as};
 
 use connection::Connection;
 
@@ -75,10 +75,10 @@ fn context_held(part: &[u8]) -> [u8; 64]
 
 // Every byte is looked at, whatever the count is: so they are tested sixteen at a time.
 #[tactic(auto, using(crate::proofs::Entries::counts_up, crate::proofs::Entries::keeping_none, crate::proofs::Entries::keeping_more, crate::proofs::Entries::keeping_all))]
-fn is_context_kept(count: u8, context: [u8; 64]) -> bool
-    ensures { result ≡ is_context_kept count context }
+fn is_context_kept(count: u8, context: &[u8; 64]) -> bool
+    ensures { result ≡ is_context_kept count context.now }
 {
-    let places = PLACES;
+    let places = &PLACES;
     let mut kept = count <= 64;
     let mut i: usize = 0;
     while i < frame::GREATEST_CONTEXT {
@@ -132,8 +132,8 @@ impl Subscription {
         }
     }
 
-    fn is_free(self, kept: bool) -> bool
-        ensures { result ≡ free_by kept self }
+    fn is_free(&self, kept: bool) -> bool
+        ensures { result ≡ free_by kept self.now }
     {
         !self.used
             & !self.waiting
@@ -146,20 +146,19 @@ impl Subscription {
             & kept
     }
 
-    fn is_sound(self, live: bool, kept: bool) -> bool
-        ensures { result ≡ sound_by live kept self }
+    fn is_sound(&self, live: bool, kept: bool) -> bool
+        ensures { result ≡ sound_by live kept self.now }
     {
         let mute = objects::is_mute(self.emitter);
         self.used & live & mute & (self.event == objects::CHANGE_EVENT) & kept
     }
 
-    // `live` is whether its connection is open. Its context is tested at one place, where it lies: a second would copy it.
+    // `live` is whether its connection is open.
     #[tactic(auto, using(crate::proofs::Entries::used_obeys, crate::proofs::Entries::unused_obeys))]
-    fn obeys(self, live: bool) -> bool
-        ensures { result ≡ (is_free self || sound_as live self) }
+    fn obeys(&self, live: bool) -> bool
+        ensures { result ≡ (is_free self.now || sound_as live self.now) }
     {
-        let context = self.context;
-        let kept = is_context_kept(self.context_count, context);
+        let kept = is_context_kept(self.context_count, &self.context);
         if self.used {
             return self.is_sound(live, kept);
         }
@@ -168,8 +167,8 @@ impl Subscription {
 
     // The same subscription, whatever its context. Most pairs differ in their emitters.
     #[tactic(auto, using(crate::proofs::Entries::twin_not), unfolding(crate::specs::State::is_twin))]
-    pub fn is_twin(self, t: Subscription) -> bool
-        ensures { result ≡ is_twin self t }
+    pub fn is_twin(&self, t: &Subscription) -> bool
+        ensures { result ≡ is_twin self.now t.now }
     {
         if self.emitter != t.emitter {
             return false;
@@ -184,34 +183,21 @@ impl Subscription {
     }
 
     #[tactic(auto, using(crate::proofs::Entries::marked_now, crate::proofs::Entries::marked_not))]
-    pub fn marked(mut self, emitter: u32) -> Subscription
-        ensures { result ≡ marked_of emitter self }
+    fn mark(&mut self, emitter: u32)
+        ensures { self.new ≡ marked_of emitter self.old }
     {
         if self.used & (self.emitter == emitter) {
             self.waiting = true;
-            return self;
         }
-        self
     }
 
-    // A waiting entry is told: it waits no more.
-    #[tactic(auto, unfolding(crate::specs::State::told_of))]
-    pub fn told(mut self) -> Subscription
-        ensures { result ≡ told_of self }
-    {
-        self.waiting = false;
-        self
-    }
-
-    // `live` is whether its connection is open.
     #[tactic(auto, using(crate::proofs::Entries::swept_gone, crate::proofs::Entries::swept_kept), unfolding(octets::specs::Zeros::zeros))]
-    fn swept(self, live: bool) -> Subscription
-        ensures { result ≡ swept_by live self }
+    fn sweep(&mut self, connections: &[Connection; 8])
+        ensures { self.new ≡ swept_of connections.now self.old }
     {
-        if self.used & !live {
-            return Subscription::FREE;
+        if self.used & !connection::live_at(connections, self.connection) {
+            *self = Subscription::FREE;
         }
-        self
     }
 }
 
@@ -227,28 +213,25 @@ fn before(used: bool, i: usize) -> usize
 
 // From the last entry down, each by itself and then with those before it: entry i has still to be compared with j of them.
 #[tactic(auto, using(crate::proofs::Walks::walking_none, crate::proofs::Walks::walking_inside, crate::proofs::Walks::walking_twin, crate::proofs::Walks::walking_more, crate::proofs::Walks::walking_past, crate::proofs::Walks::walking_not, crate::proofs::Walks::walking_next, crate::proofs::Walks::walking_less, crate::proofs::Walks::walking_end))]
-pub fn all_obey(entries: [Subscription; 32], connections: [Connection; 8]) -> bool
-    ensures { result ≡ (all (entry_obeys connections) entries && all_pairs apart entries) }
+pub fn all_obey(entries: &[Subscription; 32], connections: &[Connection; 8]) -> bool
+    ensures { result ≡ (all (entry_obeys connections.now) entries.now && all_pairs apart entries.now) }
 {
     let mut i: usize = ENTRIES;
     let mut j: usize = 0;
     while 0 < i {
         if 0 < j {
             j -= 1;
-            let s = entries[i];
-            let t = entries[j];
-            if t.is_twin(s) {
+            if entries[j].is_twin(&entries[i]) {
                 return false;
             }
         } else {
             i -= 1;
-            let s = entries[i];
+            let s = &entries[i];
             let at = s.connection as usize;
             if at >= connection::CONNECTIONS {
                 return false;
             }
-            let c = connections[at];
-            if !s.obeys(c.live) {
+            if !s.obeys(connections[at].live) {
                 return false;
             }
             j = before(s.used, i);
@@ -258,14 +241,14 @@ pub fn all_obey(entries: [Subscription; 32], connections: [Connection; 8]) -> bo
 }
 
 // The lowest waiting entry, or 32.
-#[tactic(auto, using(crate::proofs::Entries::waiting_is, laws::proofs::Loops::searching_none, laws::proofs::Loops::searching_more, laws::proofs::Loops::searching_here, laws::proofs::Loops::searching_end))]
-pub fn lowest_waiting(entries: [Subscription; 32]) -> usize
-    ensures { result ≡ lowest_waiting entries }
+#[tactic(auto, using(crate::proofs::Entries::waiting_is, crate::proofs::Entries::waits_here, laws::proofs::Loops::searching_none, laws::proofs::Loops::searching_more, laws::proofs::Loops::searching_here, laws::proofs::Loops::searching_end))]
+pub fn lowest_waiting(entries: &[Subscription; 32]) -> usize
+    ensures place { result ≡ lowest_waiting entries.now }
+    ensures waits { result < 32 → is_waiting (slice_index_or entries.now result free) ≡ true }
 {
     let mut i: usize = 0;
     while i < ENTRIES {
-        let t = entries[i];
-        if t.waiting {
+        if entries[i].waiting {
             return i;
         }
         i += 1;
@@ -273,39 +256,35 @@ pub fn lowest_waiting(entries: [Subscription; 32]) -> usize
     i
 }
 
-#[tactic(auto, using(laws::proofs::Loops::mapping_none, laws::proofs::Loops::mapping_more, laws::proofs::Loops::mapping_all))]
-pub fn all_marked(entries: [Subscription; 32], emitter: u32) -> [Subscription; 32]
-    ensures { result ≡ map (marked_of emitter) entries }
+// A waiting entry is told: it waits no more.
+#[tactic(auto, using(crate::proofs::Entries::told_in), unfolding(crate::specs::State::told_of))]
+pub fn tell(entries: &mut [Subscription; 32], at: usize)
+    requires { at < 32 }
+    ensures { entries.new ≡ slice_set entries.old at (told_of (slice_index_or entries.old at free)) }
 {
-    let mut out = entries;
-    let mut i: usize = 0;
-    while i < ENTRIES {
-        let s = out[i];
-        out[i] = s.marked(emitter);
-        i += 1;
-    }
-    out
+    entries[at].waiting = false;
 }
 
-#[tactic(auto, using(crate::proofs::Entries::sweeps_in, crate::proofs::Entries::sweeps_past, laws::proofs::Loops::mapping_none, laws::proofs::Loops::mapping_all, laws::proofs::Tables::length_mapped))]
-pub fn all_swept(entries: [Subscription; 32], connections: [Connection; 8]) -> [Subscription; 32]
-    ensures { result ≡ map (swept_of connections) entries }
+#[tactic(auto, using(laws::proofs::Loops::mapping_none, laws::proofs::Loops::mapping_more, laws::proofs::Loops::mapping_all))]
+pub fn all_marked(entries: &mut [Subscription; 32], emitter: u32)
+    ensures { entries.new ≡ map (marked_of emitter) entries.old }
 {
-    let mut out = entries;
     let mut i: usize = 0;
     while i < ENTRIES {
-        let s = out[i];
-        let at = s.connection as usize;
-        if at < connection::CONNECTIONS {
-            let c = connections[at];
-            out[i] = s.swept(c.live);
-            i += 1;
-        } else {
-            out[i] = s.swept(false);
-            i += 1;
-        }
+        entries[i].mark(emitter);
+        i += 1;
     }
-    out
+}
+
+#[tactic(auto, using(laws::proofs::Loops::mapping_none, laws::proofs::Loops::mapping_more, laws::proofs::Loops::mapping_all))]
+pub fn all_swept(entries: &mut [Subscription; 32], connections: &[Connection; 8])
+    ensures { entries.new ≡ map (swept_of connections.now) entries.old }
+{
+    let mut i: usize = 0;
+    while i < ENTRIES {
+        entries[i].sweep(connections);
+        i += 1;
+    }
 }
 
 #[tactic(auto, using(crate::proofs::Keeps::entries_kept))]

@@ -1,6 +1,6 @@
 -- Laws of taking: what the record rules tell of a waiting entry and of a connection, and which way a take goes. Assumes nothing.
 use Prim.Native.Nat.{ℕ, suc, ◌<◌, ◌≤◌}
-use mathlib.Core.Path.{◌≡◌, refl}
+use mathlib.Core.Path.{◌≡◌, refl, ap, ◌∙◌}
 use mathlib.Core.Logic.{⊎_elim}
 use mathlib.Core.Bool.{Bool, true, false, cond, ◌&&◌, and-false}
 use mathlib.Core.List.{List, [], ◌∷◌}
@@ -8,7 +8,6 @@ use native.Mathlib.Nat.{not-suc-le-zero, le_of_suc-le-suc}
 use native.Mathlib.Omega.{arith}
 use borrow.Author.Tests.{lt-ltb, le-ltb}
 use lib.ListN.{length, get_or, set}
-use lib.Dec.{ltb}
 use Rattle.laws.specs.Lists.{all, all_pairs, index}
 use Rattle.laws.proofs.Conds.{and_left, and_right}
 use Rattle.laws.proofs.Loops.{all_at}
@@ -38,9 +37,7 @@ use Rattle.device.specs.State.{sent_at, told_at}
 use Rattle.device.specs.Obeys.{device_obeys}
 use Rattle.device.specs.Run.{mute_at}
 use Rattle.device.specs.declared.Device.{Device}
-use Rattle.taking.specs.declared.Sending.{Sending}
-use Rattle.taking.specs.Scaffold.{sent_in}
-use Rattle.taking.specs.Dispatch.{Dispatch, dispatch, subscription_at, notified_of, notifying, reminding, taken_by, dispatched}
+use Rattle.taking.specs.Dispatch.{Dispatch, dispatch, subscription_at, notification_at, notified_of, notifying, reminding, taken_by, dispatched}
 
 -- ---- the record rules
 waiting_used : (s : Subscription) → is_waiting s ≡ true → is_free s ≡ false
@@ -103,46 +100,31 @@ pub found_waits : (l : List Subscription) (i : ℕ) → i ≡ lowest_waiting l �
 found_waits l i e s h = rw e (index_meets is_waiting l free (omega arith))
 
 -- ---- what is sent
-module _ (d : Device) (s : Sending) where
-  pub sending_told : (i : ℕ) → i < 32 → (t : Subscription) → t ≡ subscription_at d i → t.connection < 8
-      → s.place ≡ i → s.entry ≡ told_of t → s.number ≡ t.connection
-      → s.connection ≡ sent_of (get_or d.connections t.connection closed)
-      → sent_in d s ≡ notified_of d i
-  unfolding sent_in notified_of sent_at told_at
-  sending_told i h t q m p e n c = rw (p, e, n, c, lt-ltb i entry_count h, lt-ltb t.connection connection_count m, q)
-
-  pub sending_reminded : (n : ℕ) → n < 8 → s.place ≡ entry_count → s.number ≡ n → s.connection ≡ sent_of (get_or d.connections n closed)
-      → sent_in d s ≡ sent_at d n
-  unfolding sent_in sent_at
-  sending_reminded n h p q c = rw (p, q, c, lt-ltb n connection_count h)
-
-  pub sending_nothing : s.place ≡ entry_count → s.number ≡ connection_count → sent_in d s ≡ d
-  unfolding sent_in
-  sending_nothing p q = rw (p, q)
-
-  pub sending_put : (a : List ℕ) (es : List Subscription) (cs : List Connection) (o : List ℕ) (w : Dispatch)
-      → dispatch a (sent_in d s) o ≡ w
-      → es ≡ cond (ltb s.place entry_count) (set d.subscriptions s.place s.entry) d.subscriptions
-      → cs ≡ cond (ltb s.number connection_count) (set d.connections s.number s.connection) d.connections
-      → dispatch a (with_connections (with_subscriptions d es) cs) o ≡ w
-  unfolding sent_in
-  sending_put a es cs o w e p q = rw (p, q) e
-
--- what is put at a place, on the two ways of its test
-module _ {A : Type 0} (l m : List A) (i n : ℕ) (x : A) where
-  pub put_in : i < n → m ≡ set l i x → m ≡ cond (ltb i n) (set l i x) l
-  put_in h e = rw (lt-ltb i n h) e
-
-  pub put_past : n ≤ i → m ≡ l → m ≡ cond (ltb i n) (set l i x) l
-  put_past h e = rw (le-ltb i n h) e
-
-pub notified_is : (d : Device) (i at k : ℕ) (f : Device) (out o : List ℕ) (t : Subscription) → t ≡ subscription_at d i → at ≡ place_of t.emitter
+pub notification_is : (d : Device) (i at k : ℕ) (out o : List ℕ) (t : Subscription) → t ≡ subscription_at d i → at ≡ place_of t.emitter
     → k ≡ length (notification_bytes t (get_or d.mutes at 0))
     → o ≡ at_front (notification_bytes t (get_or d.mutes at 0)) out
-    → f ≡ notified_of d i
+    → (k ≡ length (notification_at d i)) × (o ≡ at_front (notification_at d i) out)
+unfolding mute_at
+notification_is d i at k out o t s a p q = (rw (p, a, s), rw (q, a, s))
+
+pub told_sent : (d : Device) (i : ℕ) (t : Subscription) → t ≡ subscription_at d i → (c b : Connection) → t.connection < length d.connections
+    → c ≡ sent_of (get_or d.connections t.connection b) → (l : List Subscription) → l ≡ set d.subscriptions i (told_of (get_or d.subscriptions i free))
+    → with_connections (with_subscriptions d l) (set d.connections t.connection c) ≡ notified_of d i
+unfolding notified_of sent_at told_at
+told_sent d i t q c b h x l p = rw (x, get_d_any d.connections t.connection b closed h, p, q)
+
+pub notified_is : (d : Device) (i k : ℕ) (f : Device) (out o : List ℕ) (t : Subscription) → t ≡ subscription_at d i
+    → k ≡ length (notification_at d i) → o ≡ at_front (notification_at d i) out → f ≡ notified_of d i
     → dispatch (taking_numbers (Notification t.connection k)) f o ≡ notifying d out i
-unfolding notifying mute_at
-notified_is d i at k f out o t s a p q e = rw (p, q, e, a, s)
+unfolding notifying
+notified_is d i k f out o t s p q e = rw (p, q, e, s)
+
+pub sent_is : (d : Device) (n : ℕ) (c b : Connection) → n < length d.connections → c ≡ sent_of (get_or d.connections n b) → with_connections d (set d.connections n c) ≡ sent_at d n
+unfolding sent_at
+sent_is d n c b h x = rw (x, get_d_any d.connections n b closed h)
+
+pub heard_is : (d : Device) (n : ℕ) (h : Heartbeat) (b : Connection) → n < length d.connections → h ≡ heartbeat_kept (get_or d.connections n b) → h ≡ heartbeat_kept (get_or d.connections n closed)
+heard_is d n h b k e = e ∙ ap heartbeat_kept (get_d_any d.connections n b closed k)
 
 pub reminded_is : (d : Device) (n k : ℕ) (h : Heartbeat) (f : Device) (out o : List ℕ) → h ≡ heartbeat_kept (get_or d.connections n closed)
     → k ≡ length (keep_alive_bytes h) → o ≡ at_front (keep_alive_bytes h) out → f ≡ sent_at d n

@@ -4,7 +4,7 @@ use Prim.Native.Nat.{◌-◌}
 use Rattle.subscription.proofs.all_swept.Given as goal
 
 abbrev pub invariant-loop-i : goal.invariant-loop-i
-invariant-loop-i l = Mapping (swept_of l.connections) 32 l.i l.initial.out l.out
+invariant-loop-i l = Mapping (swept_of l.connections) 32 l.i l.initial.entries l.entries
 
 abbrev pub decreases-loop-i : goal.decreases-loop-i
 decreases-loop-i l = 32 - l.i
