@@ -133,8 +133,8 @@
  * - let two buffers of one call overlap;
  * - put anything but 0 or 1 into a bool of the record;
  * - pass one record and area to two calls at the same time;
- * - call with less than about 64 KB of stack: records pass by value, and the
- *   deepest call, melorwyth_deliver, takes 55 KB with the place for its answer
+ * - call with less than about 16 KB of stack: records pass by value, and the
+ *   deepest call, melorwyth_deliver, takes 10 KB with the place for its answer
  *   (docs/BENCHMARKS.md).
  *
  * A record that was changed between calls is not in this list: if it breaks a

@@ -103,8 +103,8 @@
 //!   says that its connection is.
 //! - A UDP socket while `record().device.mechanism` is armed, and every datagram of it whole:
 //!   [`Endpoint::datagram`].
-//! - About 64 KB of stack for a call, and about 76 KB in an unoptimised program: records pass by value,
-//!   and the deepest, [`Endpoint::deliver`], took 56 KB, unoptimised 66 KB.
+//! - About 16 KB of stack for a call, and about 48 KB in an unoptimised program: records pass by value,
+//!   and the deepest, [`Endpoint::deliver`], took 10 KB, unoptimised 39 KB.
 //!
 //! The header `include/melorwyth.h` says more of each, and `docs/PROMISES.md` what is proved.
 //!

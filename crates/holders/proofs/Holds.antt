@@ -1,15 +1,11 @@
 -- A holder tested and swept, case by case. Assumes nothing.
-use Prim.Native.Nat.{ℕ, ◌+◌, ◌-◌, ◌*◌, ◌^◌, ◌<◌, ◌≤◌}
-use mathlib.Core.Path.{◌≡◌, refl, sym, ◌∙◌}
-use mathlib.Core.Bool.{Bool, true, false, cond, ◌&&◌}
+use Prim.Native.Nat.{ℕ, ◌+◌, ◌-◌, ◌<◌, ◌≤◌}
+use mathlib.Core.Path.{◌≡◌, refl, sym}
+use mathlib.Core.Bool.{Bool, true, false}
 use mathlib.Core.List.{List}
-use native.Mathlib.Omega.{arith}
-use borrow.Author.Tests.{lt-ltb, ltb-true, leb-true, leb-false, eq-eqb, ne_eqb, eqb-true, eqb-false}
-use lib.Dec.{eqb, ltb, leb}
-use lib.ListN.{length, set, get_or}
-use Rattle.laws.proofs.Conds.{and_left, and_right}
-use Rattle.laws.proofs.Tables.{clash}
-use Rattle.laws.proofs.Loops.{Testing, testing_more, testing_not, Mapping, mapping_from}
+use borrow.Author.Tests.{eq-eqb, ne_eqb}
+use lib.ListN.{length, get_or}
+use Rattle.laws.proofs.Loops.{Testing, testing_more, testing_not}
 use Rattle.connection.proofs.Times.{live_out, live_in}
 use Rattle.connection.specs.State.{live_at}
 use Rattle.connection.specs.declared.Connection.{Connection}
