@@ -1,23 +1,14 @@
 -- The numbers of an answer tell it from every other. Assumes nothing.
-use Prim.Native.Nat.{ℕ}
-use mathlib.Core.Path.{◌≡◌, refl}
-use mathlib.Core.List.{List}
-use mathlib.Core.Bool.{cond}
-use lib.ListN.{get_or}
-use lib.Dec.{eqb}
-use Rattle.laws.proofs.Inverse.{undone_tells}
-use Rattle.numbers.specs.Refusal.{not_refused, bad_record, bad_area, no_connection}
-use Rattle.numbers.specs.Kind.{kind_more, kind_message, kind_nothing, kind_notification, kind_unchanged}
-use Rattle.answers.specs.Numbers.{clearing_numbers, opening_numbers, closing_numbers, ticking_numbers, delivery_numbers, taking_numbers, resetting_numbers}
-use Rattle.answers.specs.Tell.{AnswersTell}
-use Rattle.answers.specs.declared.Clearing.{Clearing}
-use Rattle.answers.specs.declared.Clearing.TheVariants as clearing
-use Rattle.answers.specs.declared.Opening.{Opening}
-use Rattle.answers.specs.declared.Opening.TheVariants as opening
-use Rattle.answers.specs.declared.Closing.{Closing}
-use Rattle.answers.specs.declared.Closing.TheVariants as closing
-use Rattle.answers.specs.declared.Ticking.{Ticking}
-use Rattle.answers.specs.declared.Ticking.TheVariants as ticking
+use Rattle.std.specs.Prelude.{◌≡◌, ◌≢◌, List, ℕ, refl, get_or, Ok, Err}
+use Rattle.std.proofs.Common.{sym, ap, ◌∙◌}
+use Rattle.numbers.specs.Refusal.{not_refused, refusal_number, refusal_numbers}
+use Rattle.numbers.specs.declared.Refusal.{Refusal}
+use Rattle.numbers.specs.declared.Refusal.TheVariants as refusals
+use Rattle.numbers.proofs.Tables.{numbers_table}
+use Rattle.answers.specs.Numbers.{clearing_numbers, opening_numbers, closing_numbers, ticking_numbers}
+use Rattle.answers.specs.Numbers.{delivery_numbers, taking_numbers, resetting_numbers}
+use Rattle.answers.specs.Laws.{units_tell, bytes_tell, deliveries_tell, takings_tell, resettings_tell}
+use Rattle.answers.specs.Tell.{Tells, AnswersTell}
 use Rattle.answers.specs.declared.Delivery.{Delivery}
 use Rattle.answers.specs.declared.Delivery.TheVariants as delivery
 use Rattle.answers.specs.declared.Taking.{Taking}
@@ -25,108 +16,54 @@ use Rattle.answers.specs.declared.Taking.TheVariants as taking
 use Rattle.answers.specs.declared.Resetting.{Resetting}
 use Rattle.answers.specs.declared.Resetting.TheVariants as resetting
 
--- each kind of answer made again from its numbers
-clearing_back : List ℕ → Clearing
-clearing_back l = cond (eqb (get_or l 0 0) not_refused) clearing.Done clearing.BadArea
+-- ---- the answers that refuse nothing
+pub deliveries_pass : (a : Delivery) → get_or (delivery_numbers a) 0 0 ≡ not_refused
+deliveries_pass (delivery.More t) = refl
+deliveries_pass (delivery.Message t l) = refl
+deliveries_pass (delivery.Closed t f) = refl
 
-clearing_back_lem : (a : Clearing) → clearing_back (clearing_numbers a) ≡ a
-unfolding clearing_back
-clearing_back_lem clearing.Done = refl
-clearing_back_lem clearing.BadArea = refl
+pub takings_pass : (a : Taking) → get_or (taking_numbers a) 0 0 ≡ not_refused
+takings_pass taking.Nothing = refl
+takings_pass (taking.Notification n l) = refl
+takings_pass (taking.KeepAlive n l) = refl
 
-opening_back : List ℕ → Opening
-opening_back l =
-    cond (eqb (get_or l 0 0) not_refused) (opening.Number (get_or l 1 0)) (cond (eqb (get_or l 0 0) bad_record) opening.BadRecord opening.TableFull)
+pub resettings_pass : (a : Resetting) → get_or (resetting_numbers a) 0 0 ≡ not_refused
+resettings_pass resetting.Nothing = refl
+resettings_pass resetting.Done = refl
 
-opening_back_lem : (a : Opening) → opening_back (opening_numbers a) ≡ a
-unfolding opening_back
-opening_back_lem (opening.Number n) = refl
-opening_back_lem opening.BadRecord = refl
-opening_back_lem opening.TableFull = refl
+-- ---- and with the refusals
+refusal_first : (r : Refusal) → get_or (refusal_numbers r) 0 0 ≡ refusal_number r
+refusal_first refusals.BadRecord = refl
+refusal_first refusals.BadArea = refl
+refusal_first refusals.NoConnection = refl
+refusal_first refusals.NoRoom = refl
+refusal_first refusals.TableFull = refl
+refusal_first refusals.ClockBack = refl
+refusal_first (refusals.Fault f) = refl
+refusal_first refusals.Short = refl
+refusal_first refusals.TooLong = refl
+refusal_first refusals.BadEntry = refl
+refusal_first refusals.NoEntry = refl
 
-closing_back : List ℕ → Closing
-closing_back l =
-    cond (eqb (get_or l 0 0) not_refused) closing.Done
-    (cond (eqb (get_or l 0 0) bad_record) closing.BadRecord (cond (eqb (get_or l 0 0) bad_area) closing.BadArea closing.NoConnection))
+module _ {A : Type 0} (told : A → List ℕ) (passes : (a : A) → get_or (told a) 0 0 ≡ not_refused) where
+  never_refused : (a : A) (r : Refusal) → told a ≢ refusal_numbers r
+  never_refused a r e =
+      numbers_table.names.refused r (sym (refusal_first r) ∙ sym (ap (λ (l : List ℕ). get_or l 0 0) e) ∙ passes a)
 
-closing_back_lem : (a : Closing) → closing_back (closing_numbers a) ≡ a
-unfolding closing_back
-closing_back_lem closing.Done = refl
-closing_back_lem closing.BadRecord = refl
-closing_back_lem closing.BadArea = refl
-closing_back_lem closing.NoConnection = refl
-
-ticking_back : List ℕ → Ticking
-ticking_back l =
-    cond (eqb (get_or l 0 0) not_refused) (ticking.Closed (get_or l 1 0))
-    (cond (eqb (get_or l 0 0) bad_record) ticking.BadRecord
-    (cond (eqb (get_or l 0 0) bad_area) ticking.BadArea ticking.ClockBack))
-
-ticking_back_lem : (a : Ticking) → ticking_back (ticking_numbers a) ≡ a
-unfolding ticking_back
-ticking_back_lem (ticking.Closed mask) = refl
-ticking_back_lem ticking.BadRecord = refl
-ticking_back_lem ticking.BadArea = refl
-ticking_back_lem ticking.ClockBack = refl
-
-decided_back : List ℕ → Delivery
-decided_back l =
-    cond (eqb (get_or l 1 0) kind_more) (delivery.More (get_or l 2 0))
-    (cond (eqb (get_or l 1 0) kind_message) (delivery.Message (get_or l 2 0) (get_or l 3 0)) (delivery.Closed (get_or l 2 0) (get_or l 3 0)))
-
-delivery_back : List ℕ → Delivery
-delivery_back l =
-    cond (eqb (get_or l 0 0) not_refused) (decided_back l)
-    (cond (eqb (get_or l 0 0) bad_record) delivery.BadRecord
-    (cond (eqb (get_or l 0 0) bad_area) delivery.BadArea
-    (cond (eqb (get_or l 0 0) no_connection) delivery.NoConnection delivery.NoRoom)))
-
-delivery_back_lem : (a : Delivery) → delivery_back (delivery_numbers a) ≡ a
-unfolding delivery_back decided_back
-delivery_back_lem (delivery.More k) = refl
-delivery_back_lem (delivery.Message k n) = refl
-delivery_back_lem (delivery.Closed k f) = refl
-delivery_back_lem delivery.BadRecord = refl
-delivery_back_lem delivery.BadArea = refl
-delivery_back_lem delivery.NoConnection = refl
-delivery_back_lem delivery.NoRoom = refl
-
-sent_back : List ℕ → Taking
-sent_back l =
-    cond (eqb (get_or l 1 0) kind_nothing) taking.Nothing
-    (cond (eqb (get_or l 1 0) kind_notification) (taking.Notification (get_or l 2 0) (get_or l 3 0)) (taking.KeepAlive (get_or l 2 0) (get_or l 3 0)))
-
-taking_back : List ℕ → Taking
-taking_back l = cond (eqb (get_or l 0 0) not_refused) (sent_back l) (cond (eqb (get_or l 0 0) bad_record) taking.BadRecord taking.NoRoom)
-
-taking_back_lem : (a : Taking) → taking_back (taking_numbers a) ≡ a
-unfolding taking_back sent_back
-taking_back_lem taking.Nothing = refl
-taking_back_lem (taking.Notification n k) = refl
-taking_back_lem (taking.KeepAlive n k) = refl
-taking_back_lem taking.BadRecord = refl
-taking_back_lem taking.NoRoom = refl
-
-resetting_back : List ℕ → Resetting
-resetting_back l =
-    cond (eqb (get_or l 0 0) not_refused) (cond (eqb (get_or l 1 0) kind_unchanged) resetting.Nothing resetting.Done)
-    (cond (eqb (get_or l 0 0) bad_record) resetting.BadRecord resetting.BadArea)
-
-resetting_back_lem : (a : Resetting) → resetting_back (resetting_numbers a) ≡ a
-unfolding resetting_back
-resetting_back_lem resetting.Nothing = refl
-resetting_back_lem resetting.Done = refl
-resetting_back_lem resetting.BadRecord = refl
-resetting_back_lem resetting.BadArea = refl
+  pub answer_tells : ((a b : A) → told a ≡ told b → a ≡ b) → Tells told
+  answer_tells tells (Ok a) (Ok b) e = ap Ok (tells a b e)
+  answer_tells tells (Ok a) (Err r) e = absurd (never_refused a r e)
+  answer_tells tells (Err r) (Ok b) e = absurd (never_refused b r (sym e))
+  answer_tells tells (Err r) (Err q) e = ap Err (numbers_table.names.refusal_told r q e)
 
 pub answers_tell : AnswersTell
 answers_tell =
     record {
-      clearings = undone_tells clearing_numbers clearing_back clearing_back_lem;
-      openings = undone_tells opening_numbers opening_back opening_back_lem;
-      closings = undone_tells closing_numbers closing_back closing_back_lem;
-      tickings = undone_tells ticking_numbers ticking_back ticking_back_lem;
-      deliveries = undone_tells delivery_numbers delivery_back delivery_back_lem;
-      takings = undone_tells taking_numbers taking_back taking_back_lem;
-      resettings = undone_tells resetting_numbers resetting_back resetting_back_lem;
+      clearings = answer_tells clearing_numbers (λ a. refl) units_tell;
+      openings = answer_tells opening_numbers (λ a. refl) bytes_tell;
+      closings = answer_tells closing_numbers (λ a. refl) units_tell;
+      tickings = answer_tells ticking_numbers (λ a. refl) bytes_tell;
+      deliveries = answer_tells delivery_numbers deliveries_pass deliveries_tell;
+      takings = answer_tells taking_numbers takings_pass takings_tell;
+      resettings = answer_tells resetting_numbers resettings_pass resettings_tell;
     }

@@ -1,216 +1,193 @@
-// What the calls of a host answer, and each answer in its numbers.
+//! What the calls of a host answer, and each answer in its numbers.
+//!
+//! A call answers `Result<T, Refusal>`: clear and close `()`, open and tick `u8`, deliver [`Delivery`], take [`Taking`], and a
+//! datagram [`Resetting`].
 #![tactic(auto)]
 
-ghost use Rattle.std.specs.Prelude.{◌≡◌, ◌<◌};
-ghost use Rattle.numbers.specs.Kind.{kind_closed};
-ghost use Rattle.answers.specs.Numbers.{numbers_with, numbers_of};
-ghost use Rattle.answers.specs.Numbers.{clearing_numbers, opening_numbers, closing_numbers, ticking_numbers};
+ghost use Rattle.std.specs.Prelude.{◌≡◌, ℕ, List};
+ghost use Rattle.numbers.specs.Refusal.{refusal_numbers};
+ghost use Rattle.answers.specs.Numbers.{numbers_with, numbers_of, answer_numbers};
+ghost use Rattle.answers.specs.Numbers.{opening_numbers, closing_numbers};
 ghost use Rattle.answers.specs.Numbers.{delivery_numbers, taking_numbers, resetting_numbers};
+ghost use Rattle.answers.specs.Fits.{FaultFits, ConnectionFits};
 ghost use Rattle.answers.specs.Tell.{AnswersTell};
+ghost use Rattle.answers.specs.Laws.{units_tell, bytes_tell, deliveries_tell, takings_tell, resettings_tell};
 
-// Of the call that zeros an area.
-#[derive(Clone, Copy)]
-pub enum Clearing {
-    Done,
-    BadArea,
-}
+use numbers::{Fault, Refusal};
 
-// Of an opening: the connection's number.
-#[derive(Clone, Copy)]
-pub enum Opening {
-    Number(u8),
-    BadRecord,
-    TableFull,
-}
-
-// Of the host's close.
-#[derive(Clone, Copy)]
-pub enum Closing {
-    Done,
-    BadRecord,
-    BadArea,
-    NoConnection,
-}
-
-// Of a tick: the connections closed, a bit each.
-#[derive(Clone, Copy)]
-pub enum Ticking {
-    Closed(u8),
-    BadRecord,
-    BadArea,
-    ClockBack,
-}
-
-// Of a delivery.
-#[derive(Clone, Copy)]
+/// Of a delivery that is not refused, each with how many bytes of the piece were taken.
+#[derive(Clone, Copy, Debug, PartialEq, Eq)]
 pub enum Delivery {
-    // how many bytes were taken
+    /// Nothing is decided yet: all of the piece was taken.
     More(usize),
-    // and the length of the reply
+    /// A sound message was carried out; the length in bytes of the reply, 0 for none.
     Message(usize, usize),
-    // and the fault
-    Closed(usize, u8),
-    BadRecord,
-    BadArea,
-    NoConnection,
-    NoRoom,
+    /// The bytes decided a fault, and the connection is closed.
+    Closed(usize, Fault),
 }
 
-// Of a taking.
-#[derive(Clone, Copy)]
+/// Of a taking that is not refused.
+#[derive(Clone, Copy, Debug, PartialEq, Eq)]
 pub enum Taking {
+    /// Nothing waits to be sent.
     Nothing,
-    // the connection, and the message's length
+    /// A notification: the number of the connection that it is for, and its length in bytes.
     Notification(u8, usize),
+    /// A keep-alive: the number of the connection that it is for, and its length in bytes.
     KeepAlive(u8, usize),
-    BadRecord,
-    NoRoom,
 }
 
-// Of a datagram on the reset mechanism's port.
-#[derive(Clone, Copy)]
+/// Of a datagram on the reset mechanism's port that is not refused.
+#[derive(Clone, Copy, Debug, PartialEq, Eq)]
 pub enum Resetting {
+    /// The datagram is not the armed mechanism's: nothing changed.
     Nothing,
+    /// The device started anew.
     Done,
-    BadRecord,
-    BadArea,
 }
 
-// An answer's numbers in their order, and zeros behind them.
-#[derive(Clone, Copy)]
+/// An answer's numbers in their order, and zeros behind them.
+#[derive(Clone, Copy, Debug, PartialEq, Eq)]
 pub struct Numbers {
-    // 0, or the refusal
+    /// 0, or the refusal.
     pub number: u8,
-    // the kind, the connection opened, or the connections closed
+    /// The kind, the connection opened, the connections closed (a bit each), or the fault of a refusal.
     pub first: u8,
-    // the bytes taken, or the connection of a message
+    /// The bytes taken, or the connection of a message.
     pub second: usize,
-    // the length of a message, or the fault
+    /// The length of a message, or the fault.
     pub third: usize,
 }
 
-fn told(first: u8, second: usize, third: usize) -> Numbers
+/// An answer that refuses nothing, in its numbers.
+pub trait Told {
+    /// The numbers of the answer.
+    ghost told: { Self → List ℕ };
+
+    /// The same, zeros behind them.
+    fn numbers(self) -> Numbers
+        ensures { result ≡ numbers_of (told self) };
+
+    // Answers with the same numbers are the same.
+    ghost tells: { (a b : Self) → told a ≡ told b → a ≡ b };
+}
+
+fn answered(first: u8, second: usize, third: usize) -> Numbers
     ensures { result ≡ numbers_with 0 first second third }
 {
     Numbers {
-        number: numbers::NOT_REFUSED,
+        number: 0,
         first,
         second,
         third,
     }
 }
 
-fn refusal(number: u8) -> Numbers
-    ensures { result ≡ numbers_with number 0 0 0 }
+impl Told for () {
+    ghost told = { closing_numbers };
+
+    ghost tells = { units_tell };
+
+    #[tactic(auto, unfolding(crate::specs::Numbers::numbers_of))]
+    fn numbers(self) -> Numbers {
+        answered(0, 0, 0)
+    }
+}
+
+impl Told for u8 {
+    ghost told = { opening_numbers };
+
+    ghost tells = { bytes_tell };
+
+    #[tactic(auto, unfolding(crate::specs::Numbers::numbers_of))]
+    fn numbers(self) -> Numbers {
+        answered(self, 0, 0)
+    }
+}
+
+impl Told for Delivery {
+    ghost told = { delivery_numbers };
+
+    ghost tells = { deliveries_tell };
+
+    #[tactic(auto, unfolding(crate::specs::Numbers::numbers_of))]
+    fn numbers(self) -> Numbers {
+        match self {
+            Delivery::More(taken) => answered(1, taken, 0),
+            Delivery::Message(taken, length) => answered(2, taken, length),
+            Delivery::Closed(taken, fault) => { answered(3, taken, fault.number() as usize) }
+        }
+    }
+}
+
+impl Told for Taking {
+    ghost told = { taking_numbers };
+
+    ghost tells = { takings_tell };
+
+    #[tactic(auto, unfolding(crate::specs::Numbers::numbers_of))]
+    fn numbers(self) -> Numbers {
+        match self {
+            Taking::Nothing => answered(0, 0, 0),
+            Taking::Notification(n, length) => answered(1, n as usize, length),
+            Taking::KeepAlive(n, length) => answered(2, n as usize, length),
+        }
+    }
+}
+
+impl Told for Resetting {
+    ghost told = { resetting_numbers };
+
+    ghost tells = { resettings_tell };
+
+    #[tactic(auto, unfolding(crate::specs::Numbers::numbers_of))]
+    fn numbers(self) -> Numbers {
+        match self {
+            Resetting::Nothing => answered(0, 0, 0),
+            Resetting::Done => answered(1, 0, 0),
+        }
+    }
+}
+
+// A fault's number stands behind that of the refusal.
+#[tactic(auto, unfolding(crate::specs::Numbers::numbers_of))]
+fn refused(refusal: Refusal) -> Numbers
+    ensures { result ≡ numbers_of (refusal_numbers refusal) }
 {
+    let number = refusal.number();
+    let first = match refusal {
+        Refusal::Fault(fault) => fault.number(),
+        _ => 0,
+    };
     Numbers {
         number,
-        first: 0,
+        first,
         second: 0,
         third: 0,
     }
 }
 
-impl Clearing {
-    #[tactic(auto, unfolding(crate::specs::Numbers::numbers_of))]
-    pub fn numbers(self) -> Numbers
-        ensures { result ≡ numbers_of (clearing_numbers self) }
-    {
-        match self {
-            Clearing::Done => told(0, 0, 0),
-            Clearing::BadArea => refusal(numbers::BAD_AREA),
-        }
+/// The numbers of any call's answer.
+pub fn numbers_told<T: Told>(answer: Result<T, Refusal>) -> Numbers
+    ensures { result ≡ numbers_of (answer_numbers T.told answer) }
+{
+    match answer {
+        Ok(told) => told.numbers(),
+        Err(refusal) => refused(refusal),
     }
 }
 
-impl Opening {
-    #[tactic(auto, unfolding(crate::specs::Numbers::numbers_of))]
-    pub fn numbers(self) -> Numbers
-        ensures { result ≡ numbers_of (opening_numbers self) }
-    {
-        match self {
-            Opening::Number(n) => told(n, 0, 0),
-            Opening::BadRecord => refusal(numbers::BAD_RECORD),
-            Opening::TableFull => refusal(numbers::TABLE_FULL),
-        }
-    }
-}
+// A closure's third number is a fault, and fits a byte.
+#[tactic(auto, using(crate::proofs::Fits::fault_fits))]
+pub fn fault_fits(answer: Result<Delivery, Refusal>)
+    ensures { FaultFits answer }
+{}
 
-impl Closing {
-    #[tactic(auto, unfolding(crate::specs::Numbers::numbers_of))]
-    pub fn numbers(self) -> Numbers
-        ensures { result ≡ numbers_of (closing_numbers self) }
-    {
-        match self {
-            Closing::Done => told(0, 0, 0),
-            Closing::BadRecord => refusal(numbers::BAD_RECORD),
-            Closing::BadArea => refusal(numbers::BAD_AREA),
-            Closing::NoConnection => refusal(numbers::NO_CONNECTION),
-        }
-    }
-}
-
-impl Ticking {
-    #[tactic(auto, unfolding(crate::specs::Numbers::numbers_of))]
-    pub fn numbers(self) -> Numbers
-        ensures { result ≡ numbers_of (ticking_numbers self) }
-    {
-        match self {
-            Ticking::Closed(mask) => told(mask, 0, 0),
-            Ticking::BadRecord => refusal(numbers::BAD_RECORD),
-            Ticking::BadArea => refusal(numbers::BAD_AREA),
-            Ticking::ClockBack => refusal(numbers::CLOCK_BACK),
-        }
-    }
-}
-
-impl Delivery {
-    // A closure's third number is a fault, and fits a byte.
-    #[tactic(auto, using(crate::proofs::Fits::fault_fits), unfolding(crate::specs::Numbers::numbers_of))]
-    pub fn numbers(self) -> Numbers
-        ensures { (result ≡ numbers_of (delivery_numbers self)) × (result.first ≡ kind_closed → result.third < 256) }
-    {
-        match self {
-            Delivery::More(taken) => told(numbers::KIND_MORE, taken, 0),
-            Delivery::Message(taken, length) => told(numbers::KIND_MESSAGE, taken, length),
-            Delivery::Closed(taken, fault) => told(numbers::KIND_CLOSED, taken, fault as usize),
-            Delivery::BadRecord => refusal(numbers::BAD_RECORD),
-            Delivery::BadArea => refusal(numbers::BAD_AREA),
-            Delivery::NoConnection => refusal(numbers::NO_CONNECTION),
-            Delivery::NoRoom => refusal(numbers::NO_ROOM),
-        }
-    }
-}
-
-impl Taking {
-    // The second number is a connection's, and fits a byte.
-    #[tactic(auto, using(crate::proofs::Fits::second_fits), unfolding(crate::specs::Numbers::numbers_of))]
-    pub fn numbers(self) -> Numbers
-        ensures { (result ≡ numbers_of (taking_numbers self)) × (result.second < 256) }
-    {
-        match self {
-            Taking::Nothing => told(numbers::KIND_NOTHING, 0, 0),
-            Taking::Notification(n, length) => told(numbers::KIND_NOTIFICATION, n as usize, length),
-            Taking::KeepAlive(n, length) => told(numbers::KIND_KEEP_ALIVE, n as usize, length),
-            Taking::BadRecord => refusal(numbers::BAD_RECORD),
-            Taking::NoRoom => refusal(numbers::NO_ROOM),
-        }
-    }
-}
-
-impl Resetting {
-    #[tactic(auto, unfolding(crate::specs::Numbers::numbers_of))]
-    pub fn numbers(self) -> Numbers
-        ensures { result ≡ numbers_of (resetting_numbers self) }
-    {
-        match self {
-            Resetting::Nothing => told(numbers::KIND_UNCHANGED, 0, 0),
-            Resetting::Done => told(numbers::KIND_RESET, 0, 0),
-            Resetting::BadRecord => refusal(numbers::BAD_RECORD),
-            Resetting::BadArea => refusal(numbers::BAD_AREA),
-        }
-    }
-}
+// A taking's second number is a connection's, and fits a byte.
+#[tactic(auto, unfolding(crate::specs::Numbers::numbers_of))]
+pub fn connection_fits(answer: Result<Taking, Refusal>)
+    ensures { ConnectionFits answer }
+{}
 
 // The numbers of an answer tell it from every other.
 #[tactic(auto, using(crate::proofs::Tells::answers_tell))]

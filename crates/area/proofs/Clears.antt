@@ -60,7 +60,7 @@ pub clearing_none : (lives : List Bool) (area : List ℕ) → length lives ≡ 8
 unfolding closed_cleared
 clearing_none lives area h l = record { low = omega arith; size = h; long = l; is = refl }
 
-pub clearing_more : (n : ℕ) (lives : List Bool) (d : Bool) (first area next : List ℕ) → Clearing n lives first area → n < 8
+clearing_more : (n : ℕ) (lives : List Bool) (d : Bool) (first area next : List ℕ) → Clearing n lives first area → n < 8
     → next ≡ cond (get_or lives n d) area (part_cleared area n) → Clearing (n + 1) lives first next
 unfolding cleared_from
 clearing_more n lives d first area next w h q =
@@ -73,6 +73,15 @@ clearing_more n lives d first area next w h q =
       long = ap length q ∙ length_unless (get_or lives n d) area n ∙ w.long;
       is = w.is ∙ s ∙ ap (λ (k : ℕ). cleared_from k (drop k lives) next) (sym e);
     }
+
+-- its connection is open, and not
+pub clearing_open : (n : ℕ) (lives : List Bool) (d : Bool) (first area : List ℕ) → Clearing n lives first area → n < 8
+    → get_or lives n d ≡ true → Clearing (n + 1) lives first area
+clearing_open n lives d first area w h e = clearing_more n lives d first area area w h (rw e refl)
+
+pub clearing_closed : (n : ℕ) (lives : List Bool) (d : Bool) (first area next : List ℕ) → Clearing n lives first area → n < 8
+    → get_or lives n d ≡ false → next ≡ part_cleared area n → Clearing (n + 1) lives first next
+clearing_closed n lives d first area next w h e q = clearing_more n lives d first area next w h (rw e q)
 
 pub clearing_all : (n : ℕ) (lives : List Bool) (first area : List ℕ) → Clearing n lives first area → 8 ≤ n → area ≡ closed_cleared lives first
 unfolding cleared_from

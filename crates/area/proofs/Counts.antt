@@ -1,44 +1,21 @@
 -- Laws of the counts of undecided bytes. Assumes nothing.
-use Prim.Native.Nat.{ℕ, zero, suc, ◌+◌, ◌≤◌, ◌<◌}
-use mathlib.Core.Path.{◌≡◌, refl, sym, ap, ◌∙◌}
-use mathlib.Core.List.{List, [], ◌∷◌, ◌++◌, append-nil}
-use mathlib.Core.Bool.{Bool, cond, true, false, ◌&&◌}
+use Prim.Native.Nat.{zero, suc, ◌+◌, ◌≤◌, ◌<◌}
 use native.Mathlib.Omega.{arith}
 use native.Mathlib.Numerals.{add-one}
 use native.Mathlib.Nat.{not-suc-le-zero, le_of_suc-le-suc}
+use mathlib.Core.List.{◌++◌, append-nil}
 use lib.ListN.{length, take, drop, set, get_or, drop_of_length-le}
-use lib.Seq.{drop-cons, take_all}
+use lib.Seq.{take_all}
+use Rattle.std.proofs.Common.{ℕ, ◌≡◌, ◌∙◌, refl, List, [], ◌∷◌, Bool, true, false, cond, ◌&&◌, ap, zip}
+use Rattle.std.specs.List.{list_all}
 use Rattle.area.specs.Area.{held_kept, count_obeys, held_obeys}
 
--- the loop that tests: n counts are seen
-pub record Counting (n : ℕ) (lives : List Bool) (held : List ℕ) : Type 0 where
-  pub low : n ≤ 8
-  pub sizes : (length lives ≡ 8) × (length held ≡ 8)
-  pub is : held_obeys lives held ≡ held_obeys (drop n lives) (drop n held)
-
-pub counting_none : (lives : List Bool) (held : List ℕ) → length lives ≡ 8 → length held ≡ 8 → Counting 0 lives held
-counting_none lives held a b = record { low = omega arith; sizes = (a, b); is = refl }
-
-counts_first : (n : ℕ) (lives : List Bool) (held : List ℕ) → n < length lives → n < length held
-    → held_obeys (drop n lives) (drop n held) ≡ (count_obeys (get_or lives n false) (get_or held n 0) && held_obeys (drop (n + 1) lives) (drop (n + 1) held))
+-- every count beside its connection
+pub all_obey : (lives : List Bool) (held : List ℕ) → list_all (λ pair. count_obeys pair.0 pair.1) (zip lives held) ≡ held_obeys lives held
 unfolding held_obeys
-counts_first n lives held a b = rw (drop-cons lives n false a, drop-cons held n 0 b, add-one n)
-
-pub counting_more : (n : ℕ) (lives : List Bool) (held : List ℕ) (b : Bool) → Counting n lives held → n < 8
-    → b ≡ count_obeys (get_or lives n false) (get_or held n 0) → b ≡ true → Counting (n + 1) lives held
-counting_more n lives held b w h q t =
-    record { low = omega arith; sizes = w.sizes; is = w.is ∙ counts_first n lives held (omega (arith, w.sizes)) (omega (arith, w.sizes)) ∙ rw (← q, t) }
-
-pub counting_not : (n : ℕ) (lives : List Bool) (held : List ℕ) (b : Bool) → Counting n lives held → n < 8
-    → b ≡ count_obeys (get_or lives n false) (get_or held n 0) → b ≡ false → false ≡ held_obeys lives held
-counting_not n lives held b w h q t =
-    sym (w.is ∙ counts_first n lives held (omega (arith, w.sizes)) (omega (arith, w.sizes)) ∙ rw (← q, t))
-
-pub counting_all : (n : ℕ) (lives : List Bool) (held : List ℕ) → Counting n lives held → 8 ≤ n → true ≡ held_obeys lives held
-unfolding held_obeys
-counting_all n lives held w h =
-    let l : length lives ≤ n = omega (arith, w.sizes) in
-    sym (w.is ∙ rw (drop_of_length-le lives l))
+all_obey [] held = refl
+all_obey (live ∷ lives) [] = refl
+all_obey (live ∷ lives) (k ∷ held) = ap (λ (b : Bool). count_obeys live k && b) (all_obey lives held)
 
 -- the loop that clears: n counts are done
 pub record Keeping (n : ℕ) (lives : List Bool) (held out : List ℕ) : Type 0 where
@@ -49,24 +26,42 @@ pub record Keeping (n : ℕ) (lives : List Bool) (held out : List ℕ) : Type 0 
 pub keeping_none : (lives : List Bool) (held : List ℕ) → length lives ≡ 8 → length held ≡ 8 → Keeping 0 lives held held
 keeping_none lives held a b = record { low = omega arith; sizes = (a, b); is = refl }
 
-kept_next : (n : ℕ) (lives : List Bool) (held : List ℕ) → length lives ≡ length held → n < length held
-    → set (take n (held_kept lives held) ++ drop n held) n (cond (get_or lives n false) (get_or held n 0) 0)
-    ≡ take (suc n) (held_kept lives held) ++ drop (suc n) held
+kept_open : (n : ℕ) (lives : List Bool) (held : List ℕ) → length lives ≡ length held → n < length held → get_or lives n false ≡ true
+    → take n (held_kept lives held) ++ drop n held ≡ take (suc n) (held_kept lives held) ++ drop (suc n) held
 unfolding held_kept
-kept_next n [] [] e h = absurd (not-suc-le-zero h)
-kept_next n [] (k ∷ held) e h = absurd (omega arith)
-kept_next n (b ∷ lives) [] e h = absurd (omega arith)
-kept_next zero (b ∷ lives) (k ∷ held) e h = refl
-kept_next (suc n) (b ∷ lives) (k ∷ held) e h = ap (λ (l : List ℕ). cond b k 0 ∷ l) (kept_next n lives held (omega arith) (le_of_suc-le-suc h))
+kept_open n [] [] e h o = absurd (not-suc-le-zero h)
+kept_open n [] (k ∷ held) e h o = absurd (omega arith)
+kept_open n (b ∷ lives) [] e h o = absurd (omega arith)
+kept_open zero (b ∷ lives) (k ∷ held) e h o = rw o refl
+kept_open (suc n) (b ∷ lives) (k ∷ held) e h o =
+    ap (λ (l : List ℕ). cond b k 0 ∷ l) (kept_open n lives held (omega arith) (le_of_suc-le-suc h) o)
 
-pub keeping_more : (n : ℕ) (lives : List Bool) (held out : List ℕ) (v : ℕ) → Keeping n lives held out → n < 8
-    → v ≡ cond (get_or lives n false) (get_or held n 0) 0 → Keeping (n + 1) lives held (set out n v)
-keeping_more n lives held out v w h q =
-    record {
-      low = omega arith;
-      sizes = w.sizes;
-      is = rw (w.is, q, add-one n) (kept_next n lives held (omega (arith, w.sizes)) (omega (arith, w.sizes)));
-    }
+kept_closed : (n : ℕ) (lives : List Bool) (held : List ℕ) → length lives ≡ length held → n < length held → get_or lives n false ≡ false
+    → set (take n (held_kept lives held) ++ drop n held) n 0 ≡ take (suc n) (held_kept lives held) ++ drop (suc n) held
+unfolding held_kept
+kept_closed n [] [] e h o = absurd (not-suc-le-zero h)
+kept_closed n [] (k ∷ held) e h o = absurd (omega arith)
+kept_closed n (b ∷ lives) [] e h o = absurd (omega arith)
+kept_closed zero (b ∷ lives) (k ∷ held) e h o = rw o refl
+kept_closed (suc n) (b ∷ lives) (k ∷ held) e h o =
+    ap (λ (l : List ℕ). cond b k 0 ∷ l) (kept_closed n lives held (omega arith) (le_of_suc-le-suc h) o)
+
+module _ (n : ℕ) (lives : List Bool) (held out : List ℕ) (w : Keeping n lives held out) (h : n < 8) where
+  pub keeping_open : get_or lives n false ≡ true → Keeping (n + 1) lives held out
+  keeping_open o =
+      record {
+        low = omega arith;
+        sizes = w.sizes;
+        is = rw add-one (w.is ∙ kept_open n lives held (omega (arith, w.sizes)) (omega (arith, w.sizes)) o);
+      }
+
+  pub keeping_closed : get_or lives n false ≡ false → Keeping (n + 1) lives held (set out n 0)
+  keeping_closed o =
+      record {
+        low = omega arith;
+        sizes = w.sizes;
+        is = rw (w.is, add-one n) (kept_closed n lives held (omega (arith, w.sizes)) (omega (arith, w.sizes)) o);
+      }
 
 length_kept : (lives : List Bool) (held : List ℕ) → length lives ≡ length held → length (held_kept lives held) ≡ length held
 unfolding held_kept

@@ -1,35 +1,33 @@
--- Tests and first places, as the library has them. Assumes nothing.
-use Rattle.std.proofs.Common.{◌≡◌, ◌∙◌, ap, refl, ℕ, suc, ◌+◌, Bool, true, false, not, cond, ◌&&◌, ◌||◌, List, [], ◌∷◌, length, arith}
-use Rattle.std.specs.List.{list_all, position, position_or_len}
-use Rattle.std.specs.Prelude.{Option, nat_lt}
-use Rattle.laws.specs.Lists.{all, any, index}
-use Rattle.arrays.specs.Places.{place}
+-- First places, as the library's search finds them. Assumes nothing.
+use Rattle.std.proofs.Common.{◌≡◌, ◌∙◌, refl, ℕ, suc, ◌+◌, ◌<◌, ◌≤◌, Bool, true, false, not, cond, List, [], ◌∷◌, length, ltb, ltb-true, ltb-false, arith}
+use Rattle.std.specs.List.{position, position_or_len}
+use Rattle.std.specs.Option.{unwrap_or, IfSome}
+use Rattle.std.specs.Prelude.{Option, Some, None}
+use Rattle.laws.specs.Lists.{index}
 
-pub index_is : {A : Type 0} (p : A → Bool) (xs : List A) → position_or_len p xs ≡ index p xs
+index_is : {A : Type 0} (p : A → Bool) (xs : List A) → position_or_len p xs ≡ index p xs
 index_is p [] = refl
 index_is p (x ∷ xs) = elim (p x) as (λ b. cond (not b) (1 + position_or_len p xs) 0 ≡ cond b 0 (suc (index p xs))) [ true ↦ refl | false ↦ rw (index_is p xs) (omega arith) ]
 
-lt_suc : (a b : ℕ) → nat_lt (suc a) (suc b) ≡ nat_lt a b
-lt_suc a b = grind arith
+index_up : {A : Type 0} (p : A → Bool) (xs : List A) → index p xs ≤ length xs
+index_up p [] = omega arith
+index_up p (x ∷ xs) = elim (p x) as (λ b. cond b 0 (suc (index p xs)) ≤ suc (length xs)) [ true ↦ omega arith | false ↦ omega (arith, index_up p xs) ]
 
-lt_zero : (b : ℕ) → nat_lt 0 (suc b) ≡ true
-lt_zero b = grind arith
+module _ {A : Type 0} (p : A → Bool) (xs : List A) (n : ℕ) (r : Option ℕ) (e : r ≡ position p xs) (l : length xs ≡ n) where
+  found : r ≡ cond (ltb (index p xs) n) (Some (index p xs)) None
+  found = e ∙ rw (index_is p xs, l) refl
 
--- there is a first place exactly where some element meets the test
-pub index_low : {A : Type 0} (p : A → Bool) (xs : List A) → nat_lt (index p xs) (length xs) ≡ any p xs
-index_low p [] = refl
-index_low p (x ∷ xs) = elim (p x) as (λ b. nat_lt (cond b 0 (suc (index p xs))) (suc (length xs)) ≡ (b || any p xs)) [ true ↦ lt_zero (length xs) | false ↦ lt_suc (index p xs) (length xs) ∙ index_low p xs ]
+  -- what the search hands back, as a number: the length where no element meets the test
+  pub found_number : unwrap_or r n ≡ index p xs
+  found_number = rw found (go (ltb (index p xs) n) refl)
+    where
+      go : (b : Bool) → ltb (index p xs) n ≡ b → unwrap_or (cond b (Some (index p xs)) None) n ≡ index p xs
+      go true q = refl
+      go false q = omega (arith, ltb-false (index p xs) n q, index_up p xs, l)
 
-pub position_is : {A : Type 0} (p : A → Bool) (xs : List A) → position p xs ≡ place p xs
-position_is p xs = rw (index_is p xs, index_low p xs) refl
-
-pub all_is : {A : Type 0} (p : A → Bool) (xs : List A) → list_all p xs ≡ all p xs
-all_is p [] = refl
-all_is p (x ∷ xs) = ap (λ (b : Bool). p x && b) (all_is p xs)
-
--- what the library's searches hand back
-pub found_all : {A : Type 0} (p : A → Bool) (xs : List A) (r : Bool) → r ≡ list_all p xs → r ≡ all p xs
-found_all p xs r e = e ∙ all_is p xs
-
-pub found_place : {A : Type 0} (p : A → Bool) (xs : List A) (r : Option ℕ) → r ≡ position p xs → r ≡ place p xs
-found_place p xs r e = e ∙ position_is p xs
+  pub found_low : IfSome r (λ k. k < n)
+  found_low = rw found (go (ltb (index p xs) n) refl)
+    where
+      go : (b : Bool) → ltb (index p xs) n ≡ b → IfSome (cond b (Some (index p xs)) None) (λ k. k < n)
+      go true q = ltb-true (index p xs) n q
+      go false q = tt

@@ -1,96 +1,146 @@
 -- Each outcome of a command of the channels, from what led to it. Assumes nothing.
-use Prim.Native.Nat.{ℕ, ◌+◌, ◌<◌}
-use mathlib.Core.Path.{◌≡◌, refl, sym, ap, ◌∙◌}
-use mathlib.Core.Bool.{Bool, true, false, not}
-use mathlib.Core.List.{List, [], ◌∷◌}
-use lib.ListN.{length, get_or, set}
-use Rattle.objects.specs.Methods.{is_mute, is_telling, lock_method, unlock_method, get_method, set_method, add_method, remove_method, reset_key_method, place_of}
+use Rattle.std.proofs.Common.{ℕ, ◌+◌, ◌<◌, ◌≡◌, refl, sym, ap, ◌∙◌, Bool, true, false, not, cond, List, [], ◌∷◌, length, get_or, set, arith, Result, Ok, Err}
+use mir.Val.{bool_byte}
+use Rattle.std.specs.Result.{IsErrAnd}
+use Rattle.numbers.specs.Status.{status_number}
+use Rattle.numbers.specs.declared.Status.{Status}
+use Rattle.objects.specs.declared.Method.{Method}
+use Rattle.objects.specs.declared.Reply.{Reply}
+use Rattle.objects.specs.Methods.{method_of, is_mute, is_telling, class_method, lockable_method, lock_method, unlock_method, get_method, set_method, add_method, remove_method, reset_key_method, place_of}
 use Rattle.objects.specs.Tests.{is_mute_value, first_status}
-use Rattle.objects.specs.Answers.{failed_of, answer_with}
-use Rattle.objects.specs.declared.Answer.{Answer}
+use Rattle.objects.specs.Answers.{class_of, identification_of, reply_of, answer_in, failed_of, answer_with}
 use Rattle.holders.specs.Holders.{owner_of, is_other}
 use Rattle.device.specs.Run.{done_of, answer_of, unchanged, run_of}
 use Rattle.device.specs.declared.Device.{Device}
-use Rattle.device.proofs.Commands.{ran_done, get_status, lock_other, lock_done, unlock_other, unlock_unheld, unlock_done, set_other, set_bad, set_same, set_changed, told_value}
+use Rattle.device.proofs.Commands.{ran_done, get_status, lock_other, lock_done, unlock_other, unlock_unheld, unlock_done, set_other, set_bad, set_same, set_changed, told_class, told_value}
 use Rattle.device.proofs.Shapes.{run_stopped, run_tell, mute_left, set_size, target_is, run_lock, run_unlock, run_get, run_set}
-use Rattle.command.specs.Acting.{with_channels, same_channels, acted_in, Acts}
 use Rattle.command.specs.declared.channels.Channels.{Channels}
-use Rattle.command.specs.declared.channels.Acted.{Acted}
+use Rattle.command.specs.Acting.{Acted, channels, acted, with_channels, acted_in, Acts}
 
 -- ---- a mute
+module _ (mutes holders : List ℕ) (n at : ℕ) (h : at < 8) (b : Bool) (q : b ≡ is_other (get_or holders at 0) n) where
+  abbrev of : Device → Device
+  of d = with_channels d (channels mutes holders)
+
+  pub lock_refused : b ≡ true → Acts (channels mutes holders) n (4097 + at) lock_method 0 [] (acted (channels mutes holders) (failed_of 3) false)
+  lock_refused t = record { whole = λ d. lock_other (of d) n at h b q t (failed_of 3) refl }
+
+  pub locked : b ≡ false → (o : ℕ) → o ≡ owner_of n → Acts (channels mutes holders) n (4097 + at) lock_method 0 [] (acted (channels mutes (set holders at o)) (answer_with []) false)
+  locked t o p = record { whole = λ d. lock_done (of d) n at h b q t o p (answer_with []) refl }
+
+  pub unlock_refused : b ≡ true → Acts (channels mutes holders) n (4097 + at) unlock_method 0 [] (acted (channels mutes holders) (failed_of 3) false)
+  unlock_refused t = record { whole = λ d. unlock_other (of d) n at h b q t (failed_of 3) refl }
+
+  pub unlock_early : b ≡ false → get_or holders at 0 ≡ 0 → Acts (channels mutes holders) n (4097 + at) unlock_method 0 [] (acted (channels mutes holders) (failed_of 9) false)
+  unlock_early t z = record { whole = λ d. unlock_unheld (of d) n at h b q t z (failed_of 9) refl }
+
+  pub unlocked : b ≡ false → (get_or holders at 0 ≡ 0 → ⊥) → Acts (channels mutes holders) n (4097 + at) unlock_method 0 [] (acted (channels mutes (set holders at 0)) (answer_with []) false)
+  unlocked t z = record { whole = λ d. unlock_done (of d) n at h b q t z (answer_with []) refl }
+
+  module _ (v : ℕ) where
+    pub set_refused : b ≡ true → Acts (channels mutes holders) n (4097 + at) set_method 1 (v ∷ []) (acted (channels mutes holders) (failed_of 3) false)
+    set_refused t = record { whole = λ d. set_other (of d) n at h b q v t (failed_of 3) refl }
+
+    module _ (t : b ≡ false) (k : Bool) (p : k ≡ is_mute_value v) where
+      pub set_strange : not k ≡ true → Acts (channels mutes holders) n (4097 + at) set_method 1 (v ∷ []) (acted (channels mutes holders) (failed_of 7) false)
+      set_strange f = record { whole = λ d. set_bad (of d) n at h b q v t k p f (failed_of 7) refl }
+
+      pub set_stays : not k ≡ false → get_or mutes at 0 ≡ v → Acts (channels mutes holders) n (4097 + at) set_method 1 (v ∷ []) (acted (channels mutes holders) (answer_with []) false)
+      set_stays f s = record { whole = λ d. set_same (of d) n at h b q v t k p f s (answer_with []) refl }
+
+      pub set_done : not k ≡ false → (get_or mutes at 0 ≡ v → ⊥) → Acts (channels mutes holders) n (4097 + at) set_method 1 (v ∷ []) (acted (channels (set mutes at v) holders) (answer_with []) true)
+      set_done f s = record { whole = λ d. set_changed (of d) n at h b q v t k p f s _ refl (answer_with []) refl }
+
 -- a get is answered by the mute's value
-get_is : (d : Device) (n at : ℕ) → at < 8 → unchanged d (answer_of d (4097 + at) get_method) ≡ run_of d n (4097 + at) get_method 0 []
+pub got : (c : Channels) (n at : ℕ) → at < 8 → Acts c n (4097 + at) get_method 0 [] (acted c (answer_with (get_or c.mutes at 0 ∷ [])) false)
 unfolding done_of
-get_is d n at h = ran_done d n (4097 + at) get_method 0 [] (get_status d n at h)
+got c n at h =
+    record {
+      whole = λ d.
+          told_value (with_channels d c) at _ refl
+          ∙ ran_done (with_channels d c) n (4097 + at) get_method 0 [] (get_status (with_channels d c) n at h);
+    }
 
-module _ (c : Channels) (n at : ℕ) (h : at < 8) where
-  pub got : (a : Answer) → a ≡ answer_with (get_or c.mutes at 0 ∷ []) → (r : Acted) → r ≡ same_channels c a → Acts c n (4097 + at) get_method 0 [] r
-  got a e r g = record { whole = λ d. rw g (told_value (with_channels d c) at a e ∙ get_is (with_channels d c) n at h) }
+-- ---- a method that mutes alone have
+pub record Muting (m : ℕ) : Type 0 where
+  pub telling : false ≡ is_telling m
+  pub add : m ≡ add_method → ⊥
+  pub remove : m ≡ remove_method → ⊥
+  pub key : m ≡ reset_key_method → ⊥
 
-  module _ (b : Bool) (q : b ≡ is_other (get_or c.holders at 0) n) where
-    pub lock_refused : b ≡ true → (a : Answer) → a ≡ failed_of 3 → (r : Acted) → r ≡ same_channels c a → Acts c n (4097 + at) lock_method 0 [] r
-    lock_refused t a e r g = record { whole = λ d. rw g (lock_other (with_channels d c) n at h b q t a e) }
+pub lock_muting : (m : ℕ) → m ≡ lock_method → Muting m
+unfolding is_telling
+lock_muting m e = record { telling = rw e; add = λ (k : m ≡ add_method). omega arith; remove = λ (k : m ≡ remove_method). omega arith; key = λ (k : m ≡ reset_key_method). omega arith }
 
-    pub locked : b ≡ false → (o : ℕ) → o ≡ owner_of n → (a : Answer) → a ≡ answer_with [] → (r : Acted) → r ≡ same_channels (record { mutes = c.mutes; holders = set c.holders at o }) a → Acts c n (4097 + at) lock_method 0 [] r
-    locked t o p a e r g = record { whole = λ d. rw g (lock_done (with_channels d c) n at h b q t o p a e) }
+pub unlock_muting : (m : ℕ) → m ≡ unlock_method → Muting m
+unfolding is_telling
+unlock_muting m e = record { telling = rw e; add = λ (k : m ≡ add_method). omega arith; remove = λ (k : m ≡ remove_method). omega arith; key = λ (k : m ≡ reset_key_method). omega arith }
 
-    pub unlock_refused : b ≡ true → (a : Answer) → a ≡ failed_of 3 → (r : Acted) → r ≡ same_channels c a → Acts c n (4097 + at) unlock_method 0 [] r
-    unlock_refused t a e r g = record { whole = λ d. rw g (unlock_other (with_channels d c) n at h b q t a e) }
+pub get_muting : (m : ℕ) → m ≡ get_method → Muting m
+unfolding is_telling
+get_muting m e = record { telling = rw e; add = λ (k : m ≡ add_method). omega arith; remove = λ (k : m ≡ remove_method). omega arith; key = λ (k : m ≡ reset_key_method). omega arith }
 
-    pub unlock_early : b ≡ false → get_or c.holders at 0 ≡ 0 → (a : Answer) → a ≡ failed_of 9 → (r : Acted) → r ≡ same_channels c a → Acts c n (4097 + at) unlock_method 0 [] r
-    unlock_early t z a e r g = record { whole = λ d. rw g (unlock_unheld (with_channels d c) n at h b q t z a e) }
+pub set_muting : (m : ℕ) → m ≡ set_method → Muting m
+unfolding is_telling
+set_muting m e = record { telling = rw e; add = λ (k : m ≡ add_method). omega arith; remove = λ (k : m ≡ remove_method). omega arith; key = λ (k : m ≡ reset_key_method). omega arith }
 
-    pub unlocked : b ≡ false → (get_or c.holders at 0 ≡ 0 → ⊥) → (a : Answer) → a ≡ answer_with [] → (r : Acted) → r ≡ same_channels (record { mutes = c.mutes; holders = set c.holders at 0 }) a → Acts c n (4097 + at) unlock_method 0 [] r
-    unlocked t z a e r g = record { whole = λ d. rw g (unlock_done (with_channels d c) n at h b q t z a e) }
+-- ---- one command, by its method
+-- the number of the method that was found
+pub asked : {m : ℕ} (x y : Method) → method_of x ≡ m → x ≡ y → m ≡ method_of y
+asked x y e i = sym e ∙ ap method_of i
 
-    module _ (v : ℕ) where
-      pub set_refused : b ≡ true → (a : Answer) → a ≡ failed_of 3 → (r : Acted) → r ≡ same_channels c a → Acts c n (4097 + at) set_method 1 (v ∷ []) r
-      set_refused t a e r g = record { whole = λ d. rw g (set_other (with_channels d c) n at h b q v t a e) }
+-- the answer of a status that a call handed up
+pub err_answer : (r : Result Reply Status) (s : Status) → IsErrAnd r (λ e. e ≡ s) → answer_in r ≡ failed_of (status_number s)
+err_answer (Ok x) s i = absurd i
+err_answer (Err y) s i = rw i
 
-      module _ (t : b ≡ false) (k : Bool) (p : k ≡ is_mute_value v) where
-        pub set_strange : not k ≡ true → (a : Answer) → a ≡ failed_of 7 → (r : Acted) → r ≡ same_channels c a → Acts c n (4097 + at) set_method 1 (v ∷ []) r
-        set_strange f a e r g = record { whole = λ d. rw g (set_bad (with_channels d c) n at h b q v t k p f a e) }
+pub ran_stopped : (t m count : ℕ) (part : List ℕ) (d : Device) (n : ℕ) (s : Status) → status_number s ≡ first_status t m count part → (status_number s ≡ 0 → ⊥)
+    → (r : Result Reply Status) → IsErrAnd r (λ e. e ≡ s) → unchanged d (answer_in r) ≡ run_of d n t m count part
+ran_stopped t m count part d n s e z r i = run_stopped d n t m count part m refl (status_number s) e z (answer_in r) (err_answer r s i)
 
-        pub set_stays : not k ≡ false → get_or c.mutes at 0 ≡ v → (a : Answer) → a ≡ answer_with [] → (r : Acted) → r ≡ same_channels c a → Acts c n (4097 + at) set_method 1 (v ∷ []) r
-        set_stays f s a e r g = record { whole = λ d. rw g (set_same (with_channels d c) n at h b q v t k p f s a e) }
+module _ (t m count : ℕ) (part : List ℕ) (z : first_status t m count part ≡ 0) where
+  pub mute_asked : Muting m → is_mute t ≡ true
+  mute_asked w = mute_left t m count part _ refl z false w.telling refl w.add w.remove w.key
 
-        pub set_done : not k ≡ false → (get_or c.mutes at 0 ≡ v → ⊥) → (a : Answer) → a ≡ answer_with [] → Acts c n (4097 + at) set_method 1 (v ∷ []) (record { channels = record { mutes = set c.mutes at v; holders = c.holders }; answer = a; changed = true })
-        set_done f s a e = record { whole = λ d. set_changed (with_channels d c) n at h b q v t k p f s _ refl a e }
+  pub value_given : m ≡ set_method → length part ≡ 1
+  value_given e =
+      let w = set_muting m e in
+      set_size t m count part _ refl z false w.telling refl w.add w.remove w.key
+      (λ (k : m ≡ lock_method). omega arith) (λ (k : m ≡ unlock_method). omega arith) (λ (k : m ≡ get_method). omega arith)
 
--- ---- what is left when other methods are not
-module _ (t m count : ℕ) (part : List ℕ) (s : ℕ) (es : s ≡ first_status t m count part) (z : s ≡ 0) (b : Bool) (eb : b ≡ is_telling m) (f : b ≡ false) (no : (m ≡ add_method → ⊥) × (m ≡ remove_method → ⊥) × (m ≡ reset_key_method → ⊥)) where
-  pub act_mute : is_mute t ≡ true
-  act_mute = mute_left t m count part s es z b eb f no.0 no.1 no.2
+  module _ (d : Device) (n : ℕ) where
+    pub ran_class : m ≡ class_method → unchanged d (answer_with (identification_of (class_of t))) ≡ run_of d n t m count part
+    unfolding is_telling
+    ran_class e =
+        let k : true ≡ is_telling m = rw e in
+        run_tell d n t m count part m refl _ refl z true k refl _ (told_class t m e _ refl)
 
-  pub act_size : (m ≡ lock_method → ⊥) → (m ≡ unlock_method → ⊥) → (m ≡ get_method → ⊥) → length part ≡ 1
-  act_size l u g = set_size t m count part s es z b eb f no.0 no.1 no.2 l u g
+    pub ran_lockable : (b : Bool) → b ≡ is_mute t → m ≡ lockable_method → unchanged d (answer_with (bool_byte b ∷ [])) ≡ run_of d n t m count part
+    unfolding is_telling answer_of reply_of
+    ran_lockable b q e =
+        let k : true ≡ is_telling m = rw e in
+        run_tell d n t m count part m refl _ refl z true k refl (answer_with (bool_byte b ∷ [])) (λ c. rw (e, ← q, byte b))
+      where
+        byte : (b : Bool) → bool_byte b ≡ cond b 1 0
+        byte true = refl
+        byte false = refl
 
--- ---- one command
-module _ (c : Channels) (n t m count : ℕ) (part : List ℕ) (s : ℕ) (es : s ≡ first_status t m count part) where
-  pub act_stopped : (s ≡ 0 → ⊥) → (a : Answer) → a ≡ failed_of s → (r : Acted) → r ≡ same_channels c a → Acts c n t m count part r
-  act_stopped z a e r g = record { whole = λ d. rw g (run_stopped (with_channels d c) n t m count part m refl s es z a e) }
-
-  module _ (z : s ≡ 0) (b : Bool) (eb : b ≡ is_telling m) where
-    pub act_tell : b ≡ true → (a : Answer) → ((d : Device) → a ≡ answer_of d t m) → (r : Acted) → r ≡ same_channels c a → Acts c n t m count part r
-    act_tell f a e r g = record { whole = λ d. rw g (run_tell (with_channels d c) n t m count part m refl s es z b eb f a e) }
-
-    module _ (f : b ≡ false) (no : (m ≡ add_method → ⊥) × (m ≡ remove_method → ⊥) × (m ≡ reset_key_method → ⊥)) (at : ℕ) (p : (at ≡ place_of t) × (at < 8)) where
+    module _ (w : Muting m) (at : ℕ) (p : (at ≡ place_of t) × (at < 8)) where
       -- the mute at its place is the target
-      at_target : (d : Device) (r : Acted) → acted_in d t r ≡ acted_in d (4097 + at) r
-      at_target d r = ap (λ (j : ℕ). acted_in d j r) (sym (target_is t at (act_mute t m count part s es z b eb f no) p.0))
+      at_target : (r : Acted) → acted_in d t r ≡ acted_in d (4097 + at) r
+      at_target r = ap (λ (j : ℕ). acted_in d j r) (sym (target_is t at (mute_asked w) p.0))
 
-      pub act_lock : m ≡ lock_method → (r : Acted) → Acts c n (4097 + at) lock_method 0 [] r → Acts c n t m count part r
-      act_lock e r w =
-          record { whole = λ d. run_lock (with_channels d c) n t m count part m refl s es z b eb f no.0 no.1 no.2 at p e (acted_in d t r) (at_target d r ∙ w.whole d) }
+      pub ran_lock : m ≡ lock_method → (r : Acted) → Acts (channels d.mutes d.holders) n (4097 + at) lock_method 0 [] r → acted_in d t r ≡ run_of d n t m count part
+      ran_lock e r a = run_lock d n t m count part m refl _ refl z false w.telling refl w.add w.remove w.key at p e (acted_in d t r) (at_target r ∙ a.whole d)
 
-      pub act_unlock : m ≡ unlock_method → (r : Acted) → Acts c n (4097 + at) unlock_method 0 [] r → Acts c n t m count part r
-      act_unlock e r w =
-          record { whole = λ d. run_unlock (with_channels d c) n t m count part m refl s es z b eb f no.0 no.1 no.2 at p e (acted_in d t r) (at_target d r ∙ w.whole d) }
+      pub ran_unlock : m ≡ unlock_method → (r : Acted) → Acts (channels d.mutes d.holders) n (4097 + at) unlock_method 0 [] r → acted_in d t r ≡ run_of d n t m count part
+      ran_unlock e r a = run_unlock d n t m count part m refl _ refl z false w.telling refl w.add w.remove w.key at p e (acted_in d t r) (at_target r ∙ a.whole d)
 
-      pub act_get : m ≡ get_method → (r : Acted) → Acts c n (4097 + at) get_method 0 [] r → Acts c n t m count part r
-      act_get e r w =
-          record { whole = λ d. run_get (with_channels d c) n t m count part m refl s es z b eb f no.0 no.1 no.2 at p e (acted_in d t r) (at_target d r ∙ w.whole d ∙ sym (get_is (with_channels d c) n at p.1)) }
+      pub ran_get : m ≡ get_method → unchanged d (answer_with (get_or d.mutes at 0 ∷ [])) ≡ run_of d n t m count part
+      ran_get e = run_get d n t m count part m refl _ refl z false w.telling refl w.add w.remove w.key at p e _ (told_value d at _ refl)
 
-      pub act_set : (m ≡ lock_method → ⊥) → (m ≡ unlock_method → ⊥) → (m ≡ get_method → ⊥) → (r : Acted) → Acts c n (4097 + at) set_method 1 (get_or part 0 0 ∷ []) r → Acts c n t m count part r
-      act_set l u g r w =
-          record { whole = λ d. run_set (with_channels d c) n t m count part m refl s es z b eb f no.0 no.1 no.2 at p l u g (acted_in d t r) (at_target d r ∙ w.whole d) }
+      pub ran_set : m ≡ set_method → (r : Acted) → Acts (channels d.mutes d.holders) n (4097 + at) set_method 1 (get_or part 0 0 ∷ []) r → acted_in d t r ≡ run_of d n t m count part
+      ran_set e r a =
+          run_set d n t m count part m refl _ refl z false w.telling refl w.add w.remove w.key at p
+          (λ (k : m ≡ lock_method). omega arith) (λ (k : m ≡ unlock_method). omega arith) (λ (k : m ≡ get_method). omega arith)
+          (acted_in d t r) (at_target r ∙ a.whole d)

@@ -1,38 +1,30 @@
 -- The outcomes of adds, removes and 3.14, in a whole device. Assumes nothing.
-use Prim.Native.Nat.{ℕ, suc, ◌+◌, ◌-◌, ◌<◌, ◌≤◌}
-use mathlib.Core.Path.{◌≡◌, refl, sym, ap, ◌∙◌}
-use mathlib.Core.Bool.{Bool, true, false, cond, not}
-use mathlib.Core.List.{List, [], ◌∷◌}
-use native.Mathlib.Omega.{arith}
-use borrow.Author.Tests.{lt-ltb, ltb-true, ltb-false, eqb-true, eqb-false, ne_eqb, not-true, not-false}
-use lib.Dec.{ltb, eqb}
-use lib.ListN.{length, drop, get_or, set, get_or-eq_default, drop_of_length-le}
-use lib.Seq.{set-get_or, drop-cons}
+use Rattle.std.proofs.Common.{ℕ, suc, ◌+◌, ◌<◌, ◌≤◌, ◌≡◌, refl, sym, ap, ◌∙◌, Bool, true, false, cond, not, List, [], ◌∷◌, length, get_or, set, ltb, arith, Some, None, lt-ltb, le-ltb, ltb-true, ltb-false}
+use borrow.Author.Tests.{not-true}
+use lib.ListN.{get_or-eq_default}
+use lib.Seq.{set-get_or}
+use Rattle.std.specs.List.{position, position_or_len}
 use Rattle.laws.specs.Lists.{index}
 use Rattle.laws.proofs.Conds.{either, and_left, and_right}
 use Rattle.laws.proofs.Tables.{clash, get_d_any}
 use Rattle.octets.specs.Zeros.{zeros}
 use Rattle.frame.specs.Limits.{greatest_context}
-use Rattle.mechanism.specs.Arguments.{is_misfit, arming_of}
-use Rattle.mechanism.specs.declared.Arming.{Arming}
+use Rattle.mechanism.specs.Arguments.{Arming, arming_of, mechanism_in}
 use Rattle.mechanism.specs.declared.Mechanism.{Mechanism}
 use Rattle.subscription.specs.Setters.{with_context, without_context}
 use Rattle.subscription.specs.State.{free, is_twin, is_unused, twin_at, lowest_unused}
 use Rattle.subscription.specs.Arguments.{context_held, subscription_from, is_strange}
 use Rattle.subscription.specs.declared.Subscription.{Subscription}
-use Rattle.objects.specs.Methods.{add_method, remove_method, reset_key_method, is_subscribing}
+use Rattle.objects.specs.Methods.{add_method, remove_method, reset_key_method}
 use Rattle.objects.specs.Tests.{is_malformed, context_given, is_add_bad, first_status}
-use Rattle.objects.specs.Answers.{failed_of, answer_with}
-use Rattle.objects.specs.declared.Answer.{Answer}
+use Rattle.objects.specs.Answers.{Carried, failed_of, answer_with}
 use Rattle.objects.proofs.Shapes.{add_held}
 use Rattle.device.specs.Setters.{with_subscriptions, with_mechanism}
-use Rattle.device.specs.Run.{unchanged}
+use Rattle.device.specs.Run.{unchanged, run_of}
 use Rattle.device.specs.declared.Device.{Device}
 use Rattle.device.proofs.Commands.{add_strange, add_bad, add_twin, add_full, add_done, remove_strange, remove_none, remove_done, arm_bad, arm_done}
-use Rattle.device.proofs.Shapes.{add_size, remove_size, arm_fits, add_formed, remove_formed, arm_formed, run_stopped, run_add, run_remove, run_arm}
-use Rattle.command.specs.Booking.{slot_at, slot_for, same_booked, stored_in, booked_in, Books, Subscribes, Unsubscribes, Arms}
-use Rattle.command.specs.declared.slot.Slot.{Slot}
-use Rattle.command.specs.declared.slot.Booked.{Booked}
+use Rattle.device.proofs.Shapes.{add_size, add_formed, remove_formed, arm_formed, run_add, run_remove, run_arm}
+use Rattle.command.specs.Booking.{Slot, armed, slot_at, slot_for, slot_found, stored_in, Stores, Arms}
 
 -- ---- the slot
 -- what a search finds meets its test
@@ -48,11 +40,6 @@ index_meets p (x ∷ l) d h = go (p x) refl (λ k. index_meets p l d k) h
 at_same : (entries : List Subscription) (place : ℕ) → stored_in entries (slot_at entries place) ≡ entries
 at_same entries place =
     either (λ (l : List Subscription). l ≡ entries) (ltb place 32) (set entries place (get_or entries place free)) entries (set-get_or entries place free) refl
-
-stored_same : (entries : List Subscription) (s : Subscription) → stored_in entries (slot_for entries s) ≡ entries
-unfolding slot_for
-stored_same entries s =
-    either (λ (slot : Slot). stored_in entries slot ≡ entries) (ltb (twin_at s entries) 32) (slot_at entries (twin_at s entries)) (slot_at entries (lowest_unused entries)) (at_same entries (twin_at s entries)) (at_same entries (lowest_unused entries))
 
 twin_used : (s t : Subscription) → is_twin s t ≡ true → t.used ≡ true
 unfolding is_twin
@@ -107,218 +94,165 @@ module _ (entries : List Subscription) (l : length entries ≡ 32) (s : Subscrip
       go false e = record { none = ltb-false (twin_at s entries) 32 e; here = ap (λ (x : Slot). x.place) (slot_room e) }
 
 -- ---- the slot that is found
-index_down : {A : Type 0} (p : A → Bool) (l : List A) (j : ℕ) (d : A) → j < length l → j + index p (drop j l) ≡ cond (p (get_or l j d)) j (suc j + index p (drop (suc j) l))
-index_down p l j d h = rw (drop-cons l j d h) (go (p (get_or l j d)))
-  where
-    go : (t : Bool) → j + cond t 0 (suc (index p (drop (suc j) l))) ≡ cond t j (suc j + index p (drop (suc j) l))
-    go true = omega arith
-    go false = omega arith
+index_is : {A : Type 0} (p : A → Bool) (xs : List A) → position_or_len p xs ≡ index p xs
+index_is p [] = refl
+index_is p (x ∷ xs) = elim (p x) as (λ b. cond (not b) (1 + position_or_len p xs) 0 ≡ cond b 0 (suc (index p xs))) [ true ↦ refl | false ↦ rw (index_is p xs) (omega arith) ]
 
-not_cond : (b : Bool) (x y : ℕ) → cond b x y ≡ cond (not b) y x
-not_cond true x y = refl
-not_cond false x y = refl
+index_up : {A : Type 0} (p : A → Bool) (xs : List A) → index p xs ≤ length xs
+index_up p [] = omega arith
+index_up p (x ∷ xs) = elim (p x) as (λ b. cond b 0 (suc (index p xs)) ≤ suc (length xs)) [ true ↦ omega arith | false ↦ omega (arith, index_up p xs) ]
 
--- the walk for it, from the last entry down: i entries are left, and those behind them have the twin and the room
-pub record Seeking (s : Subscription) (i : ℕ) (l : List Subscription) (twin room : ℕ) : Type 0 where
-  pub size : length l ≡ 32
-  pub low : i ≤ 32
-  pub twins : twin ≡ i + twin_at s (drop i l)
-  pub rooms : room ≡ i + lowest_unused (drop i l)
+-- what a search hands up
+module _ {A : Type 0} (p : A → Bool) (xs : List A) (n : ℕ) (l : length xs ≡ n) where
+  place_is : position p xs ≡ cond (ltb (index p xs) n) (Some (index p xs)) None
+  place_is = rw (index_is p xs, l) refl
 
-pub seeking_none : {s : Subscription} {l : List Subscription} → length l ≡ 32 → Seeking s 32 l 32 32
-seeking_none {s} {l} e =
-    let k : length l ≤ 32 = omega arith in
-    record { size = e; low = omega arith; twins = rw (drop_of_length-le l k); rooms = rw (drop_of_length-le l k) }
-
-pub seeking_more : {s : Subscription} {i : ℕ} {l : List Subscription} {twin room : ℕ} (d : Subscription) → Seeking s i l twin room → 0 < i → {b : Bool} → b ≡ is_twin s (get_or l (i - 1) d) → {x y : ℕ} → x ≡ cond b (i - 1) twin → y ≡ cond (get_or l (i - 1) d).used room (i - 1) → Seeking s (i - 1) l x y
-unfolding is_unused
-seeking_more {s} {i} {l} {twin} {room} d k h {b} q {x} {y} ex ey =
-    let at : i - 1 < length l = omega (arith, k.low, k.size) in
-    let up : i ≡ suc (i - 1) = omega arith in
-    let t = get_or l (i - 1) d in
-    record {
-      size = k.size;
-      low = omega (arith, k.low);
-      twins = ex ∙ rw q (ap (cond (is_twin s t) (i - 1)) (k.twins ∙ ap (λ (j : ℕ). j + twin_at s (drop j l)) up) ∙ sym (index_down (is_twin s) l (i - 1) d at));
-      rooms = ey ∙ not_cond t.used room (i - 1) ∙ ap (cond (is_unused t) (i - 1)) (k.rooms ∙ ap (λ (j : ℕ). j + lowest_unused (drop j l)) up) ∙ sym (index_down is_unused l (i - 1) d at);
-    }
-
-module _ {s : Subscription} {i : ℕ} {l : List Subscription} {twin room : ℕ} (k : Seeking s i l twin room) (h : i ≤ 0) {place : ℕ} (e : place ≡ cond (ltb twin 32) twin room) where
-  sought : slot_at l place ≡ slot_for l s
-  unfolding slot_for
-  sought =
-      let z : i ≡ 0 = omega arith in
-      let t : twin ≡ twin_at s l = k.twins ∙ rw z (omega arith) in
-      let r : room ≡ lowest_unused l = k.rooms ∙ rw z (omega arith) in
-      rw (e, t, r) (sym (either_slot (ltb (twin_at s l) 32)))
+  pub place_some : (i : ℕ) → position p xs ≡ Some i → (i ≡ index p xs) × (i < n)
+  place_some i e = go (ltb (index p xs) n) refl (sym place_is ∙ e)
     where
-      either_slot : (b : Bool) → cond b (slot_at l (twin_at s l)) (slot_at l (lowest_unused l)) ≡ slot_at l (cond b (twin_at s l) (lowest_unused l))
-      either_slot true = refl
-      either_slot false = refl
+      go : (b : Bool) → ltb (index p xs) n ≡ b → cond b (Some (index p xs)) None ≡ Some i → (i ≡ index p xs) × (i < n)
+      go true q s = let w : i ≡ index p xs = cc in (w, rw w (ltb-true (index p xs) n q))
+      go false q s = cc
 
-  pub seeking_found : (d : Subscription) → place < 32 → ◌≡◌ {A = Slot} (record { place = place; entry = get_or l place d }) (slot_for l s)
-  seeking_found d w =
-      let at : place < length l = omega (arith, k.size) in
-      ap (λ (x : Subscription). record { place = place; entry = x }) (get_d_any l place d free at) ∙ sought
+  pub place_none : position p xs ≡ None → n ≤ index p xs
+  place_none e = go (ltb (index p xs) n) refl (sym place_is ∙ e)
+    where
+      go : (b : Bool) → ltb (index p xs) n ≡ b → cond b (Some (index p xs)) None ≡ None → n ≤ index p xs
+      go true q s = cc
+      go false q s = ltb-false (index p xs) n q
 
-  pub seeking_missed : 32 ≤ place → ◌≡◌ {A = Slot} (record { place = place; entry = free }) (slot_for l s)
-  seeking_missed w =
-      let past : length l ≤ place = omega (arith, k.size) in
-      ap (λ (x : Subscription). record { place = place; entry = x }) (sym (get_or-eq_default l free past)) ∙ sought
+-- the twin, or the room where there is none
+module _ (entries : List Subscription) (l : length entries ≡ 32) (s : Subscription) where
+  pub found_twin : (i : ℕ) → position (is_twin s) entries ≡ Some i → slot_at entries i ≡ slot_for entries s
+  unfolding slot_for
+  found_twin i e = let w = place_some (is_twin s) entries 32 l i e in rw (← w.0, lt-ltb i 32 w.1)
 
--- the arguments' subscription has their context
-full : (n : ℕ) (part : List ℕ) → subscription_from n part ≡ with_context (subscription_from n part) (context_given part) (context_held part)
-unfolding subscription_from
-full n part = refl
+  pub found_room : (i : ℕ) → position (is_twin s) entries ≡ None → position is_unused entries ≡ Some i → slot_at entries i ≡ slot_for entries s
+  unfolding slot_for
+  found_room i e f =
+      let w = place_some is_unused entries 32 l i f in
+      rw (le-ltb (twin_at s entries) 32 (place_none (is_twin s) entries 32 l e), ← w.0)
 
--- the context makes no difference to a slot
-slot_alike : (entries : List Subscription) (s : Subscription) → slot_for entries (without_context s) ≡ slot_for entries s
-unfolding slot_for is_twin
-slot_alike entries s = refl
+  pub found_none : position (is_twin s) entries ≡ None → position is_unused entries ≡ None → slot_found entries None ≡ slot_for entries s
+  unfolding slot_for
+  found_none e f =
+      let w = place_none is_unused entries 32 l f in
+      let u : lowest_unused entries ≡ 32 = omega (arith, index_up is_unused entries) in
+      let past : length entries ≤ 32 = omega arith in
+      rw (le-ltb (twin_at s entries) 32 (place_none (is_twin s) entries 32 l e), u)
+      (ap (λ (x : Subscription). record { place = 32; entry = x }) (sym (get_or-eq_default entries free past)))
 
--- an answer with the slot as it was
-same_whole : (entries : List Subscription) (s : Subscription) (slot : Slot) (a : Answer) (r : Booked) → r ≡ same_booked slot a → slot ≡ slot_for entries s → (d : Device) → booked_in d entries r ≡ unchanged (with_subscriptions d entries) a
-same_whole entries s slot a r k q d =
-    ap (booked_in d entries) k
-    ∙ ap (λ (es : List Subscription). unchanged (with_subscriptions d es) a) (ap (stored_in entries) q ∙ stored_same entries s)
+-- ---- what is left in the entries
+module _ (entries : List Subscription) (n m count : ℕ) (part : List ℕ) where
+  -- a command that leaves them as they were
+  kept : (a : Carried) → ((d : Device) → unchanged (with_subscriptions d entries) a ≡ run_of (with_subscriptions d entries) n 4 m count part) → Stores entries entries n m count part a
+  kept a k =
+      let e = at_same entries 0 in
+      record {
+        slot = slot_at entries 0;
+        stored = sym e;
+        books = record { whole = λ d. ap (λ (es : List Subscription). unchanged (with_subscriptions d es) a) e ∙ k d };
+      }
+
+  -- and one that stores an entry
+  put : (place : ℕ) → place < 32 → (next : Subscription) → ((d : Device) → unchanged (with_subscriptions d (set entries place next)) (answer_with []) ≡ run_of (with_subscriptions d entries) n 4 m count part)
+      → Stores entries (set entries place next) n m count part (answer_with [])
+  put place h next k =
+      let t = lt-ltb place 32 h in
+      record { slot = record { place = place; entry = next }; stored = rw t; books = record { whole = λ d. rw t (k d) } }
 
 -- ---- an add
 -- what was not refused has a context that can be held
 pub held_fits : (part : List ℕ) → is_malformed add_method 5 part ≡ false → (v : Bool) → v ≡ is_add_bad part → v ≡ false → (context_given part ≤ greatest_context) × (21 + context_given part ≤ length part)
 held_fits part f v ev e = (add_held part (sym ev ∙ e), omega (arith, add_size part f))
 
-module _ (slot : Slot) (wanted : Subscription) (part : List ℕ) (f : is_malformed add_method 5 part ≡ false) (b : Bool) (q : b ≡ is_strange part) where
-  pub subscribe_strange : b ≡ true → (a : Answer) → a ≡ failed_of 6 → (r : Booked) → r ≡ same_booked slot a → Subscribes slot wanted part r
-  subscribe_strange t a e r k =
-      record {
-        books = λ entries n l w s. record { whole = λ d. same_whole entries wanted slot a r k s d ∙ add_strange (with_subscriptions d entries) n part f b q t a e };
-      }
+module _ (entries : List Subscription) (l : length entries ≡ 32) (n : ℕ) (part : List ℕ) (f : is_malformed add_method 5 part ≡ false) (b : Bool) (q : b ≡ is_strange part) where
+  pub subscribe_strange : b ≡ true → Stores entries entries n add_method 5 part (failed_of 6)
+  subscribe_strange t = kept entries n add_method 5 part (failed_of 6) (λ d. add_strange (with_subscriptions d entries) n part f b q t (failed_of 6) refl)
 
   module _ (t : b ≡ false) (v : Bool) (ev : v ≡ is_add_bad part) where
-    pub subscribe_bad : v ≡ true → (a : Answer) → a ≡ failed_of 7 → (r : Booked) → r ≡ same_booked slot a → Subscribes slot wanted part r
-    subscribe_bad m a e r k =
-        record {
-          books = λ entries n l w s. record { whole = λ d. same_whole entries wanted slot a r k s d ∙ add_bad (with_subscriptions d entries) n part f b q t v ev m a e };
-        }
+    pub subscribe_bad : v ≡ true → Stores entries entries n add_method 5 part (failed_of 7)
+    subscribe_bad m = kept entries n add_method 5 part (failed_of 7) (λ d. add_bad (with_subscriptions d entries) n part f b q t v ev m (failed_of 7) refl)
 
-    module _ (m : v ≡ false) where
-      pub subscribe_twin : slot.entry.used ≡ true → (a : Answer) → a ≡ failed_of 9 → (r : Booked) → r ≡ same_booked slot a → Subscribes slot wanted part r
-      subscribe_twin u a e r k =
-          record {
-            books = λ entries n l w s.
-                let twin = slot_used entries l wanted slot s u in
-                record { whole = λ d. same_whole entries wanted slot a r k s d ∙ add_twin (with_subscriptions d entries) n part f b q t v ev m 0 (zeros greatest_context) wanted w (twin_at wanted entries) refl l twin.low a e };
-          }
+    module _ (m : v ≡ false) (wanted : Subscription) (w : wanted ≡ without_context (subscription_from n part)) where
+      pub subscribe_full : slot_found entries None ≡ slot_for entries wanted → Stores entries entries n add_method 5 part (failed_of 10)
+      subscribe_full s =
+          let room = slot_unused entries l wanted (slot_found entries None) s refl in
+          kept entries n add_method 5 part (failed_of 10)
+          (λ d. add_full (with_subscriptions d entries) n part f b q t v ev m 0 (zeros greatest_context) wanted w (twin_at wanted entries) refl l room.none 32 room.here (omega arith) (failed_of 10) refl)
 
-      module _ (u : slot.entry.used ≡ false) where
-        pub subscribe_full : 32 ≤ slot.place → (a : Answer) → a ≡ failed_of 10 → (r : Booked) → r ≡ same_booked slot a → Subscribes slot wanted part r
-        subscribe_full h a e r k =
-            record {
-              books = λ entries n l w s.
-                  let room = slot_unused entries l wanted slot s u in
-                  record { whole = λ d. same_whole entries wanted slot a r k s d ∙ add_full (with_subscriptions d entries) n part f b q t v ev m 0 (zeros greatest_context) wanted w (twin_at wanted entries) refl l room.none slot.place room.here h a e };
-            }
+      module _ (place : ℕ) (h : place < 32) (s : slot_at entries place ≡ slot_for entries wanted) (x : Subscription) where
+        own : (g : Bool) → (get_or entries place x).used ≡ g → (slot_at entries place).entry.used ≡ g
+        own g e = let k : place < length entries = omega arith in ap (λ (y : Subscription). y.used) (get_d_any entries place free x k) ∙ e
 
-        pub subscribe_done : slot.place < 32 → (next : Subscription) → next ≡ with_context wanted (context_given part) (context_held part) → (a : Answer) → a ≡ answer_with [] → (r : Booked) → r ≡ same_booked (record { place = slot.place; entry = next }) a → Subscribes slot wanted part r
-        subscribe_done h next en a e r k =
-            record {
-              books = λ entries n l w s.
-                  let room = slot_unused entries l wanted slot s u in
-                  record { whole = λ d. ap (booked_in d entries) k ∙ rw (lt-ltb slot.place 32 h) (add_done (with_subscriptions d entries) n part f b q t v ev m 0 (zeros greatest_context) wanted w (twin_at wanted entries) refl l room.none slot.place room.here h next en a e) };
-            }
+        pub subscribe_twin : (get_or entries place x).used ≡ true → Stores entries entries n add_method 5 part (failed_of 9)
+        subscribe_twin u =
+            let twin = slot_used entries l wanted (slot_at entries place) s (own true u) in
+            kept entries n add_method 5 part (failed_of 9)
+            (λ d. add_twin (with_subscriptions d entries) n part f b q t v ev m 0 (zeros greatest_context) wanted w (twin_at wanted entries) refl l twin.low (failed_of 9) refl)
+
+        pub subscribe_done : (get_or entries place x).used ≡ false → (next : Subscription) → next ≡ with_context wanted (context_given part) (context_held part) → Stores entries (set entries place next) n add_method 5 part (answer_with [])
+        subscribe_done u next en =
+            let room = slot_unused entries l wanted (slot_at entries place) s (own false u) in
+            put entries n add_method 5 part place h next
+            (λ d. add_done (with_subscriptions d entries) n part f b q t v ev m 0 (zeros greatest_context) wanted w (twin_at wanted entries) refl l room.none place room.here h next en (answer_with []) refl)
 
 -- ---- a remove
-module _ (slot : Slot) (part : List ℕ) (f : is_malformed remove_method 2 part ≡ false) (b : Bool) (q : b ≡ is_strange part) where
-  pub unsubscribe_strange : b ≡ true → (a : Answer) → a ≡ failed_of 6 → (r : Booked) → r ≡ same_booked slot a → Unsubscribes slot part r
-  unsubscribe_strange t a e r k =
-      record {
-        books = λ entries n l s. record { whole = λ d. same_whole entries (subscription_from n part) slot a r k s d ∙ remove_strange (with_subscriptions d entries) n part f b q t a e };
-      }
+module _ (entries : List Subscription) (l : length entries ≡ 32) (n : ℕ) (part : List ℕ) (f : is_malformed remove_method 2 part ≡ false) (b : Bool) (q : b ≡ is_strange part) where
+  pub unsubscribe_strange : b ≡ true → Stores entries entries n remove_method 2 part (failed_of 6)
+  unsubscribe_strange t = kept entries n remove_method 2 part (failed_of 6) (λ d. remove_strange (with_subscriptions d entries) n part f b q t (failed_of 6) refl)
 
-  module _ (t : b ≡ false) where
-    pub unsubscribe_none : not slot.entry.used ≡ true → (a : Answer) → a ≡ failed_of 9 → (r : Booked) → r ≡ same_booked slot a → Unsubscribes slot part r
-    unsubscribe_none u a e r k =
-        record {
-          books = λ entries n l s.
-              let room = slot_unused entries l (subscription_from n part) slot s (not-true slot.entry.used u) in
-              record { whole = λ d. same_whole entries (subscription_from n part) slot a r k s d ∙ remove_none (with_subscriptions d entries) n part f b q t (context_given part) (context_held part) (subscription_from n part) (full n part) (twin_at (subscription_from n part) entries) refl l room.none a e };
-        }
+  module _ (t : b ≡ false) (wanted : Subscription) (w : wanted ≡ without_context (subscription_from n part)) where
+    pub unsubscribe_none : position (is_twin wanted) entries ≡ None → Stores entries entries n remove_method 2 part (failed_of 9)
+    unsubscribe_none e =
+        kept entries n remove_method 2 part (failed_of 9)
+        (λ d. remove_none (with_subscriptions d entries) n part f b q t 0 (zeros greatest_context) wanted w (twin_at wanted entries) refl l (place_none (is_twin wanted) entries 32 l e) (failed_of 9) refl)
 
-    pub unsubscribe_done : not slot.entry.used ≡ false → (a : Answer) → a ≡ answer_with [] → (r : Booked) → r ≡ same_booked (record { place = slot.place; entry = free }) a → Unsubscribes slot part r
-    unsubscribe_done u a e r k =
-        record {
-          books = λ entries n l s.
-              let twin = slot_used entries l (subscription_from n part) slot s (not-false slot.entry.used u) in
-              let h : slot.place < 32 = rw twin.here twin.low in
-              record { whole = λ d. ap (booked_in d entries) k ∙ rw (lt-ltb slot.place 32 h) (remove_done (with_subscriptions d entries) n part f b q t (context_given part) (context_held part) (subscription_from n part) (full n part) slot.place twin.here l h a e) };
-        }
+    pub unsubscribe_done : (place : ℕ) → position (is_twin wanted) entries ≡ Some place → Stores entries (set entries place free) n remove_method 2 part (answer_with [])
+    unsubscribe_done place e =
+        let k = place_some (is_twin wanted) entries 32 l place e in
+        put entries n remove_method 2 part place k.1 free
+        (λ d. remove_done (with_subscriptions d entries) n part f b q t 0 (zeros greatest_context) wanted w place k.0 l k.1 (answer_with []) refl)
 
--- ---- either of them
-pub remove_else : (m : ℕ) → is_subscribing m ≡ true → (m ≡ add_method → ⊥) → m ≡ remove_method
-unfolding is_subscribing
-remove_else m k h = eqb-true m remove_method (rw (ne_eqb m add_method h) at k)
+-- ---- one command, by its method
+module _ (t m count : ℕ) (part : List ℕ) (z : first_status t m count part ≡ 0) where
+  pub added_formed : m ≡ add_method → is_malformed add_method 5 part ≡ false
+  added_formed e = add_formed t m count part _ refl z e
 
-module _ (entries : List Subscription) (n t m count : ℕ) (part : List ℕ) (s : ℕ) (es : s ≡ first_status t m count part) where
-  pub book_stopped : (s ≡ 0 → ⊥) → (a : Answer) → a ≡ failed_of s → (r : Booked) → r ≡ same_booked (record { place = 32; entry = free }) a → Books entries n t m count part r
-  book_stopped z a e r k =
-      record { whole = λ d. ap (booked_in d entries) k ∙ run_stopped (with_subscriptions d entries) n t m count part m refl s es z a e }
+  pub removed_formed : m ≡ remove_method → is_malformed remove_method 2 part ≡ false
+  removed_formed e = remove_formed t m count part _ refl z e
 
-  module _ (z : s ≡ 0) (l : length entries ≡ 32) (slot : Slot) (r : Booked) where
-    pub book_add : (wanted : Subscription) → Subscribes slot wanted part r → slot ≡ slot_for entries wanted → wanted ≡ without_context (subscription_from n part) → m ≡ add_method → Books entries n t m count part r
-    book_add wanted b q w e =
-        record { whole = λ d. run_add (with_subscriptions d entries) n t m count part m refl s es z e (booked_in d entries r) ((b.books entries n l w q).whole d) }
+  pub armed_formed : m ≡ reset_key_method → is_malformed reset_key_method 2 part ≡ false
+  armed_formed e = arm_formed t m count part _ refl z e
 
-    pub book_remove : is_subscribing m ≡ true → (m ≡ add_method → ⊥) → (wanted : Subscription) → wanted ≡ without_context (subscription_from n part) → slot ≡ slot_for entries wanted → Unsubscribes slot part r → Books entries n t m count part r
-    book_remove h g wanted w q b =
-        let found : slot ≡ slot_for entries (subscription_from n part) = q ∙ ap (slot_for entries) w ∙ slot_alike entries (subscription_from n part) in
-        record { whole = λ d. run_remove (with_subscriptions d entries) n t m count part m refl s es z (remove_else m h g) (booked_in d entries r) ((b.books entries n l found).whole d) }
+  module _ (d : Device) (n : ℕ) where
+    pub ran_add : m ≡ add_method → (after : List Subscription) (a : Carried) → Stores d.subscriptions after n add_method 5 part a → unchanged (with_subscriptions d after) a ≡ run_of d n t m count part
+    ran_add e after a s =
+        run_add d n t m count part m refl _ refl z e (unchanged (with_subscriptions d after) a)
+        (ap (λ (es : List Subscription). unchanged (with_subscriptions d es) a) s.stored ∙ s.books.whole d)
 
-  module _ (z : s ≡ 0) where
-    module _ (e : m ≡ add_method) where
-      pub added_formed : is_malformed add_method 5 part ≡ false
-      added_formed = add_formed t m count part s es z e
+    pub ran_remove : m ≡ remove_method → (after : List Subscription) (a : Carried) → Stores d.subscriptions after n remove_method 2 part a → unchanged (with_subscriptions d after) a ≡ run_of d n t m count part
+    ran_remove e after a s =
+        run_remove d n t m count part m refl _ refl z e (unchanged (with_subscriptions d after) a)
+        (ap (λ (es : List Subscription). unchanged (with_subscriptions d es) a) s.stored ∙ s.books.whole d)
 
-      added_long : 16 ≤ length part
-      added_long = omega (arith, add_size part added_formed)
-
-    module _ (h : is_subscribing m ≡ true) where
-      module _ (g : m ≡ add_method → ⊥) where
-        pub removed_formed : is_malformed remove_method 2 part ≡ false
-        removed_formed = remove_formed t m count part s es z (remove_else m h g)
-
-        removed_long : 16 ≤ length part
-        removed_long = omega (arith, remove_size part removed_formed)
-
-      -- the arguments of both reach to the subscriber's end
-      pub booked_long : 16 ≤ length part
-      booked_long = go (eqb m add_method) refl
-        where
-          go : (a : Bool) → eqb m add_method ≡ a → 16 ≤ length part
-          go true e = added_long (eqb-true m add_method e)
-          go false e = removed_long (eqb-false m add_method e)
+    pub ran_arm : m ≡ reset_key_method → (mechanism : Mechanism) (a : Carried) → Arms d.mechanism 1 2 part (armed mechanism a) → unchanged (with_mechanism d mechanism) a ≡ run_of d n t m count part
+    ran_arm e mechanism a s = run_arm d n t m count part m refl _ refl z e (unchanged (with_mechanism d mechanism) a) (s.whole d)
 
 -- ---- 3.14
-module _ (mechanism : Mechanism) (t count : ℕ) (part : List ℕ) (s : ℕ) (es : s ≡ first_status t reset_key_method count part) where
-  pub arm_stopped : (s ≡ 0 → ⊥) → (a : Answer) → a ≡ failed_of s → Arms mechanism t count part (record { mechanism = mechanism; answer = a })
-  arm_stopped z a e =
-      record { whole = λ d n. run_stopped (with_mechanism d mechanism) n t reset_key_method count part reset_key_method refl s es z a e }
+module _ (mechanism : Mechanism) (part : List ℕ) (f : is_malformed reset_key_method 2 part ≡ false) where
+  pub arm_untaken : None ≡ mechanism_in (arming_of part) → Arms mechanism 1 2 part (armed mechanism (failed_of 7))
+  arm_untaken e = go (arming_of part) refl (arming_of part).taken refl e
+    where
+      go : (o : Arming) → o ≡ arming_of part → (b : Bool) → o.taken ≡ b → None ≡ cond b (Some o.mechanism) None → Arms mechanism 1 2 part (armed mechanism (failed_of 7))
+      go o q true u e = cc
+      go o q false u e = record { whole = λ d n. arm_bad (with_mechanism d mechanism) part f o q n (rw u) (failed_of 7) refl }
 
-  module _ (z : s ≡ 0) where
-    formed : is_malformed reset_key_method 2 part ≡ false
-    formed = arm_formed t reset_key_method count part s es z refl
-
-    pub arm_fitting : is_misfit part ≡ false
-    arm_fitting = arm_fits part formed
-
-    module _ (o : Arming) (q : o ≡ arming_of part) where
-      pub arm_untaken : not o.taken ≡ true → (a : Answer) → a ≡ failed_of 7 → Arms mechanism t count part (record { mechanism = mechanism; answer = a })
-      arm_untaken u a e =
-          record {
-            whole = λ d n. run_arm (with_mechanism d mechanism) n t reset_key_method count part reset_key_method refl s es z refl (unchanged (with_mechanism d mechanism) a) (λ j. arm_bad (with_mechanism d mechanism) part formed o q j u a e);
-          }
-
-      pub arm_taken : not o.taken ≡ false → (a : Answer) → a ≡ answer_with [] → Arms mechanism t count part (record { mechanism = o.mechanism; answer = a })
-      arm_taken u a e =
-          record {
-            whole = λ d n. run_arm (with_mechanism d mechanism) n t reset_key_method count part reset_key_method refl s es z refl (unchanged (with_mechanism d o.mechanism) a) (λ j. arm_done (with_mechanism d mechanism) part formed o q j u a e);
-          }
+  pub arm_taken : (next : Mechanism) → Some next ≡ mechanism_in (arming_of part) → Arms mechanism 1 2 part (armed next (answer_with []))
+  arm_taken next e = go (arming_of part) refl (arming_of part).taken refl e
+    where
+      go : (o : Arming) → o ≡ arming_of part → (b : Bool) → o.taken ≡ b → Some next ≡ cond b (Some o.mechanism) None → Arms mechanism 1 2 part (armed next (answer_with []))
+      go o q true u e =
+          let w : next ≡ o.mechanism = cc in
+          record { whole = λ d n. ap (λ (x : Mechanism). unchanged (with_mechanism d x) (answer_with [])) w ∙ arm_done (with_mechanism d mechanism) part f o q n (rw u) (answer_with []) refl }
+      go o q false u e = cc

@@ -1,140 +1,118 @@
-// Get, set, lock and unlock, and what every object tells: they concern the mutes and the holders of their locks.
-ghost use Rattle.std.specs.Prelude.{◌≡◌, true, [], ◌∷◌, ◌+◌, ◌<◌, ℕ};
-ghost use Rattle.objects.specs.Methods.{first_mute, is_telling, add_method, remove_method, reset_key_method};
-ghost use Rattle.objects.specs.Methods.{lock_method, unlock_method, get_method, set_method};
-ghost use Rattle.device.specs.Run.{answer_of};
-ghost use Rattle.device.specs.declared.Device.{Device};
-ghost use Rattle.command.specs.Acting.{same_channels, Acts};
+// Get, lock, unlock and set: they concern the mutes and the holders of their locks. What changes the record does so in place;
+// the methods by value hand it back.
+ghost use Rattle.std.specs.Prelude.{false, [], ◌∷◌, ◌+◌, ◌<◌, List, ℕ};
+ghost use Rattle.objects.specs.Methods.{first_mute, get_method, lock_method, unlock_method, set_method};
+ghost use Rattle.objects.specs.Answers.{answer_in, answer_with, carried_bytes};
+ghost use Rattle.command.specs.Acting.{channels, acted, is_changed, change_answer, NeverZero, Acts};
 
-use objects::Answer;
+use numbers::Status;
+use objects::Reply;
 
-#[derive(Clone, Copy)]
+/// The values of the mutes, and the holders of their locks.
+#[derive(Clone, Copy, Debug, PartialEq, Eq)]
 pub struct Channels {
     pub mutes: [u8; 8],
     pub holders: [u8; 8],
 }
 
-// `changed` is whether a mute has another value: then its subscriptions are to be marked.
-#[derive(Clone, Copy)]
-pub struct Acted {
-    pub channels: Channels,
-    pub answer: Answer,
-    pub changed: bool,
-}
-
-// What 1.1 and 1.2, which every object has, tell: it needs no device.
-#[tactic(auto, using(device::proofs::Commands::told_class, device::proofs::Commands::told_lockable, device::proofs::Commands::told_not_lockable))]
-fn told(target: u32, m: u32) -> Answer
-    requires { is_telling m ≡ true }
-    ensures { (d : Device) → result ≡ answer_of d target m }
-{
-    if m == objects::CLASS {
-        return Answer::class(target);
-    }
-    if objects::is_mute(target) {
-        return Answer::byte(1);
-    }
-    Answer::byte(0)
-}
-
 impl Channels {
-    fn same(self, answer: Answer) -> Acted
-        ensures { result ≡ same_channels self answer }
-    {
-        Acted {
-            channels: self,
-            answer,
-            changed: false,
-        }
-    }
-
-    // Whichever connection asks.
+    /// What get tells of the mute at a place, whichever connection asks: its value.
     #[tactic(auto, using(crate::proofs::Acts::got))]
-    pub fn get(self, at: usize) -> Acted
+    pub fn get(self, at: usize) -> Reply
         requires { at < 8 }
-        ensures { (n : ℕ) → Acts self n (first_mute + at) get_method 0 [] result }
+        ensures { (n : ℕ) → Acts self n (first_mute + at) get_method 0 []
+            (acted self (answer_with (carried_bytes result)) false) }
     {
-        let mutes = self.mutes;
-        let v = mutes[at];
-        self.same(Answer::byte(v))
+        Reply::Byte(self.mutes[at])
     }
 
-    #[tactic(auto, using(crate::proofs::Acts::lock_refused, crate::proofs::Acts::locked))]
-    pub fn lock(mut self, n: u8, at: usize) -> Acted
+    /// The mute at a place is locked for connection `n`: status 3 where another holds it.
+    pub fn lock(mut self, n: u8, at: usize) -> (Channels, Result<Reply, Status>)
         requires { at < 8 }
-        ensures { Acts self n (first_mute + at) lock_method 0 [] result }
+        ensures acts { Acts self n (first_mute + at) lock_method 0 [] (acted result.0 (answer_in result.1) false) }
+        ensures refused { NeverZero result.1 }
     {
-        let holder = self.holders[at];
-        if holders::is_other(holder, n) {
-            return self.same(Answer::failed(numbers::HELD_BY_OTHER));
-        }
-        self.holders[at] = holders::owner(n);
-        self.same(Answer::done())
+        let answer = lock(&mut self.holders, n, at);
+        (self, answer)
     }
 
-    #[tactic(auto, using(crate::proofs::Acts::unlock_refused, crate::proofs::Acts::unlock_early, crate::proofs::Acts::unlocked))]
-    pub fn unlock(mut self, n: u8, at: usize) -> Acted
+    /// Connection `n` lets the lock go: status 3 where another holds it, 9 where nobody does.
+    pub fn unlock(mut self, n: u8, at: usize) -> (Channels, Result<Reply, Status>)
         requires { at < 8 }
-        ensures { Acts self n (first_mute + at) unlock_method 0 [] result }
+        ensures acts { Acts self n (first_mute + at) unlock_method 0 [] (acted result.0 (answer_in result.1) false) }
+        ensures refused { NeverZero result.1 }
     {
-        let holder = self.holders[at];
-        if holders::is_other(holder, n) {
-            return self.same(Answer::failed(numbers::HELD_BY_OTHER));
-        }
-        if holder == 0 {
-            return self.same(Answer::failed(numbers::OUT_OF_TURN));
-        }
-        self.holders[at] = 0;
-        self.same(Answer::done())
+        let answer = unlock(&mut self.holders, n, at);
+        (self, answer)
     }
 
-    // A value that stays marks nothing.
-    #[tactic(auto, using(crate::proofs::Acts::set_refused, crate::proofs::Acts::set_strange, crate::proofs::Acts::set_stays, crate::proofs::Acts::set_done))]
-    pub fn set(mut self, n: u8, at: usize, v: u8) -> Acted
+    /// The mute at a place gets a value: status 3 where another holds it, 7 for a value that no mute has. The answer tells
+    /// whether the value is another than before: then the mute's subscriptions are to be marked.
+    pub fn set(mut self, n: u8, at: usize, v: u8) -> (Channels, Result<bool, Status>)
         requires { at < 8 }
-        ensures { Acts self n (first_mute + at) set_method 1 (v ∷ []) result }
+        ensures acts { Acts self n (first_mute + at) set_method 1 (v ∷ [])
+            (acted result.0 (change_answer result.1) (is_changed result.1)) }
+        ensures refused { NeverZero result.1 }
     {
-        let holder = self.holders[at];
-        if holders::is_other(holder, n) {
-            return self.same(Answer::failed(numbers::HELD_BY_OTHER));
-        }
-        if !objects::is_mute_value(v) {
-            return self.same(Answer::failed(numbers::BAD_VALUE));
-        }
-        let value = self.mutes[at];
-        if value == v {
-            return self.same(Answer::done());
-        }
-        self.mutes[at] = v;
-        Acted {
-            channels: self,
-            answer: Answer::done(),
-            changed: true,
-        }
+        let answer = set(&mut self.mutes, &self.holders, n, at, v);
+        (self, answer)
     }
+}
 
-    // A command that is no add, no remove and no 3.14; `part` is the message from the entry's parameters on.
-    #[tactic(auto, using(crate::proofs::Acts::act_stopped, crate::proofs::Acts::act_tell, crate::proofs::Acts::act_mute, crate::proofs::Acts::act_lock, crate::proofs::Acts::act_unlock, crate::proofs::Acts::act_get, crate::proofs::Acts::act_set, crate::proofs::Acts::act_size, device::proofs::Shapes::is_told_lem))]
-    pub fn act(self, n: u8, target: u32, m: u32, count: u8, part: &[u8]) -> Acted
-        requires { (m ≡ add_method → ⊥) × (m ≡ remove_method → ⊥) × (m ≡ reset_key_method → ⊥) }
-        ensures { Acts self n target m count part.now result }
-    {
-        let status = objects::first_status(target, m, count, part);
-        if status != numbers::CARRIED_OUT {
-            return self.same(Answer::failed(status));
-        }
-        if objects::is_telling(m) {
-            return self.same(told(target, m));
-        }
-        let at = objects::place(target);
-        if m == objects::LOCK {
-            self.lock(n, at)
-        } else if m == objects::UNLOCK {
-            self.unlock(n, at)
-        } else if m == objects::GET {
-            self.get(at)
-        } else {
-            self.set(n, at, part[0])
-        }
+#[tactic(auto, using(crate::proofs::Acts::lock_refused, crate::proofs::Acts::locked))]
+pub(crate) fn lock(holders: &mut [u8; 8], n: u8, at: usize) -> Result<Reply, Status>
+    requires { at < 8 }
+    ensures acts { (mutes : List ℕ) → Acts (channels mutes holders.old) n (first_mute + at) lock_method 0 []
+        (acted (channels mutes holders.new) (answer_in result) false) }
+    ensures refused { NeverZero result }
+{
+    if holders::is_other(holders[at], n) {
+        return Err(Status::HeldByOther);
     }
+    holders[at] = holders::owner(n);
+    Ok(Reply::Done)
+}
+
+#[tactic(auto, using(crate::proofs::Acts::unlock_refused, crate::proofs::Acts::unlock_early, crate::proofs::Acts::unlocked))]
+pub(crate) fn unlock(holders: &mut [u8; 8], n: u8, at: usize) -> Result<Reply, Status>
+    requires { at < 8 }
+    ensures acts { (mutes : List ℕ) → Acts (channels mutes holders.old) n (first_mute + at) unlock_method 0 []
+        (acted (channels mutes holders.new) (answer_in result) false) }
+    ensures refused { NeverZero result }
+{
+    if holders::is_other(holders[at], n) {
+        return Err(Status::HeldByOther);
+    }
+    if holders[at] == 0 {
+        return Err(Status::OutOfTurn);
+    }
+    holders[at] = 0;
+    Ok(Reply::Done)
+}
+
+// Whether the mute has another value: then its subscriptions are to be marked.
+#[tactic(auto, using(crate::proofs::Acts::set_refused, crate::proofs::Acts::set_strange, crate::proofs::Acts::set_stays, crate::proofs::Acts::set_done))]
+pub(crate) fn set(
+    mutes: &mut [u8; 8],
+    holders: &[u8; 8],
+    n: u8,
+    at: usize,
+    v: u8,
+) -> Result<bool, Status>
+    requires { at < 8 }
+    ensures acts { Acts (channels mutes.old holders.now) n (first_mute + at) set_method 1 (v ∷ [])
+        (acted (channels mutes.new holders.now) (change_answer result) (is_changed result)) }
+    ensures refused { NeverZero result }
+{
+    if holders::is_other(holders[at], n) {
+        return Err(Status::HeldByOther);
+    }
+    if !objects::is_mute_value(v) {
+        return Err(Status::BadValue);
+    }
+    if mutes[at] == v {
+        return Ok(false);
+    }
+    mutes[at] = v;
+    Ok(true)
 }

@@ -1,42 +1,56 @@
-// The commands: each takes the part of the device that it concerns, and hands it back with the answer.
+//! A command of a connection: its method is found once, and each method changes the part of the device that it concerns.
 #![tactic(auto)]
 
-ghost use Rattle.command.specs.Booking.{Arms};
+ghost use Rattle.std.specs.Prelude.{◌≡◌, false};
+ghost use Rattle.objects.specs.Methods.{device_manager, method_number, reset_key_method};
+ghost use Rattle.objects.specs.Tests.{is_malformed};
+ghost use Rattle.objects.specs.Answers.{answer_in};
+ghost use Rattle.device.specs.Run.{unchanged, run_of};
+ghost use Rattle.command.specs.Acting.{NeverZero};
+ghost use Rattle.command.specs.Booking.{armed, Arms};
 
+use device::Device;
+use fields::CommandFields;
 use mechanism::Mechanism;
-use objects::Answer;
+use numbers::Status;
+use objects::{Class, Method, Reply};
 
 pub mod channels;
 pub mod slot;
 
-#[derive(Clone, Copy)]
-pub struct Armed {
-    pub mechanism: Mechanism,
-    pub answer: Answer,
+// 3.14, whichever connection it is: the mechanism is the device's.
+#[tactic(auto, using(device::proofs::Shapes::arm_fits, crate::proofs::Books::arm_untaken, crate::proofs::Books::arm_taken))]
+fn arm(mechanism: &mut Mechanism, part: &[u8]) -> Result<Reply, Status>
+    requires { is_malformed reset_key_method 2 part.now ≡ false }
+    ensures arms { Arms mechanism.old device_manager 2 part.now (armed mechanism.new (answer_in result)) }
+    ensures refused { NeverZero result }
+{
+    *mechanism = mechanism::arming_of(part).ok_or(Status::BadValue)?;
+    Ok(Reply::Done)
 }
 
-// 3.14, whichever connection it is: the mechanism is the device's.
-#[tactic(auto, using(crate::proofs::Books::arm_stopped, crate::proofs::Books::arm_fitting, crate::proofs::Books::arm_untaken, crate::proofs::Books::arm_taken))]
-pub fn arm(mechanism: Mechanism, target: u32, count: u8, part: &[u8]) -> Armed
-    ensures { Arms mechanism target count part.now result }
+/// The command of these fields from connection `n`; `part` is the message from the entry's parameters on. A command that is
+/// refused changes nothing, and its status is the first that applies.
+pub fn run(device: &mut Device, n: u8, c: CommandFields, part: &[u8]) -> Result<Reply, Status>
+    ensures runs { unchanged device.new (answer_in result)
+        ≡ run_of device.old n c.target (method_number c.method.level c.method.index) c.count part.now }
+    ensures refused { NeverZero result }
 {
-    let status = objects::first_status(target, objects::RESET_KEY, count, part);
-    if status != numbers::CARRIED_OUT {
-        return Armed {
-            mechanism,
-            answer: Answer::failed(status),
-        };
-    }
-    let arming = mechanism::arming_of(part);
-    if !arming.taken {
-        return Armed {
-            mechanism,
-            answer: Answer::failed(numbers::BAD_VALUE),
-        };
-    }
-    let next = arming.mechanism;
-    Armed {
-        mechanism: next,
-        answer: Answer::done(),
+    match objects::first_status(c.target, c.method.level, c.method.index, c.count, part)? {
+        Method::Class => Ok(Reply::Class(Class::of(c.target))),
+        Method::Lockable => Ok(Reply::Byte(objects::is_mute(c.target) as u8)),
+        Method::Lock => channels::lock(&mut device.holders, n, objects::place(c.target)),
+        Method::Unlock => channels::unlock(&mut device.holders, n, objects::place(c.target)),
+        Method::Add => slot::subscribe(&mut device.subscriptions, n, part),
+        Method::Remove => slot::unsubscribe(&mut device.subscriptions, n, part),
+        Method::ResetKey => arm(&mut device.mechanism, part),
+        Method::Get => Ok(Reply::Byte(device.mutes[objects::place(c.target)])),
+        Method::Set => {
+            let at = objects::place(c.target);
+            if channels::set(&mut device.mutes, &device.holders, n, at, part[0])? {
+                subscription::all_marked(&mut device.subscriptions, c.target);
+            }
+            Ok(Reply::Done)
+        }
     }
 }

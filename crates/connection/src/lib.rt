@@ -1,9 +1,9 @@
-// A connection of the device: open or closed, its heartbeat, and what is counted while it is supervised.
+//! A connection of the device: open or closed, its heartbeat, and what is counted while it is supervised.
 #![tactic(auto)]
 
-ghost use Rattle.std.specs.Prelude.{◌≡◌, true, map, ◌+◌, ◌^◌, ◌<◌, ◌≤◌};
+ghost use Rattle.std.specs.Prelude.{◌≡◌, true, map, ◌+◌, ◌^◌, ◌<◌, ◌≤◌, IfSome, position};
 ghost use Rattle.laws.specs.Lists.{all, mask};
-ghost use Rattle.connection.specs.State.{live_at, lowest_free, lowest_due};
+ghost use Rattle.connection.specs.State.{live_at, is_not_open, is_due};
 ghost use Rattle.connection.specs.Obeys.{is_closed, is_idle, form_obeys, is_timed, connection_obeys};
 ghost use Rattle.connection.specs.Kept.{SupervisionKept};
 ghost use Rattle.connection.specs.Steps.{StepsAdd};
@@ -12,24 +12,35 @@ ghost use Rattle.connection.specs.Supervision.{heard_of, sent_of, set_beat, beat
 
 use heartbeat::{Heartbeat, Milliseconds};
 
+/// How many connections a device has: their numbers are 0 to 7.
 pub const CONNECTIONS: usize = 8;
 
+/// The greatest heartbeat in seconds, as milliseconds.
 pub const TOP_SECONDS: u64 = heartbeat::GREATEST_SECONDS as u64 * 1000;
 
+/// The greatest heartbeat in milliseconds.
 pub const TOP_MILLISECONDS: u64 = heartbeat::GREATEST_MILLISECONDS as u64;
 
+/// One connection, as the record holds it: all zero while it is not open.
 #[repr(C)]
-#[derive(Clone, Copy)]
+#[derive(Clone, Copy, Debug, PartialEq, Eq)]
 pub struct Connection {
+    /// It is open.
     pub live: bool,
+    /// The form of its heartbeat, 1 for seconds and 2 for milliseconds; 0 without one.
     pub form: u8,
+    /// Its heartbeat H in milliseconds; 0 without one.
     pub beat: u64,
+    /// Milliseconds since something was heard, below 3 x H.
     pub silence: u64,
+    /// Milliseconds since something was sent, below H.
     pub quiet: u64,
+    /// A keep-alive is due to it.
     pub due: bool,
 }
 
 impl Connection {
+    /// A connection that is not open.
     pub const CLOSED: Connection = Connection {
         live: false,
         form: 0,
@@ -39,6 +50,7 @@ impl Connection {
         due: false,
     };
 
+    /// A connection newly opened.
     pub const OPENED: Connection = Connection {
         live: true,
         form: 0,
@@ -52,12 +64,7 @@ impl Connection {
     fn is_closed(self) -> bool
         ensures { result ≡ is_closed self }
     {
-        !self.live
-            & (self.form == 0)
-            & (self.beat == 0)
-            & (self.silence == 0)
-            & (self.quiet == 0)
-            & !self.due
+        self == Connection::CLOSED
     }
 
     #[tactic(auto, unfolding(crate::specs::Obeys::is_idle))]
@@ -90,6 +97,7 @@ impl Connection {
             & form
     }
 
+    /// It keeps the record rules of a connection.
     #[tactic(auto, using(crate::proofs::Times::obeys_shut, crate::proofs::Times::obeys_timed, crate::proofs::Times::obeys_idle))]
     pub fn obeys(self) -> bool
         ensures { result ≡ connection_obeys self }
@@ -103,6 +111,7 @@ impl Connection {
         self.is_idle()
     }
 
+    /// A tick of `step` milliseconds closes it: its silence comes to 3 x H.
     // No test that the sum fits: the rules leave silence far below 64 bits.
     #[tactic(auto, using(crate::proofs::Times::third_late, crate::proofs::Keeps::silence_fits), unfolding(crate::specs::Supervision::closes_at))]
     pub fn closes(self, step: u32) -> bool
@@ -131,6 +140,7 @@ impl Connection {
         self
     }
 
+    /// What a tick of `step` milliseconds makes of it.
     #[tactic(auto, using(crate::proofs::Times::tick_zero, crate::proofs::Times::tick_closed, crate::proofs::Times::tick_stays, crate::proofs::Keeps::silence_fits, crate::proofs::Keeps::quiet_fits))]
     pub fn ticked(mut self, step: u32) -> Connection
         requires { (connection_obeys self ≡ true) × (step < 2 ^ 31) }
@@ -146,6 +156,7 @@ impl Connection {
         self.quieter(step)
     }
 
+    /// Something sound was received on it.
     #[tactic(auto, unfolding(crate::specs::Supervision::heard_of))]
     pub fn heard(mut self) -> Connection
         ensures { result ≡ heard_of self }
@@ -154,6 +165,7 @@ impl Connection {
         self
     }
 
+    /// Something was sent on it.
     #[tactic(auto, unfolding(crate::specs::Supervision::sent_of))]
     pub fn sent(mut self) -> Connection
         ensures { result ≡ sent_of self }
@@ -179,7 +191,7 @@ impl Connection {
         self
     }
 
-    // A keep-alive received and answered.
+    /// A keep-alive was received on it and answered: its heartbeat is H from then on.
     #[tactic(auto, unfolding(crate::specs::Supervision::beating_of))]
     pub fn beating(self, h: Heartbeat) -> Connection
         ensures { result ≡ beating_of h self }
@@ -187,7 +199,7 @@ impl Connection {
         self.beat_set(h).heard().sent()
     }
 
-    // What a due keep-alive carries.
+    /// What a keep-alive that is due to it carries: its H, in its own form.
     #[tactic(auto, using(crate::proofs::Times::told_seconds, laws::proofs::Conds::tests, crate::proofs::Times::beat_fits_lem, crate::proofs::Times::seconds_fit), unfolding(crate::specs::Supervision::heartbeat_kept))]
     pub fn heartbeat(self) -> Heartbeat
         requires { connection_obeys self ≡ true }
@@ -201,6 +213,7 @@ impl Connection {
     }
 }
 
+/// Connection `n` is open; a number past the last is not.
 #[tactic(auto, using(crate::proofs::Times::live_out, crate::proofs::Times::live_in))]
 pub fn live_at(connections: &[Connection; 8], n: u8) -> bool
     ensures { result ≡ live_at connections.now n }
@@ -208,54 +221,32 @@ pub fn live_at(connections: &[Connection; 8], n: u8) -> bool
     connections.get(n as usize).is_some_and(|c| c.live)
 }
 
-// The lowest free number, or 8.
-#[tactic(auto, using(crate::proofs::Times::free_is, laws::proofs::Loops::searching_none, laws::proofs::Loops::searching_more, laws::proofs::Loops::searching_here, laws::proofs::Loops::searching_end))]
-pub fn lowest_free(connections: &[Connection; 8]) -> usize
-    ensures { result ≡ lowest_free connections.now }
+/// The lowest free number, if one is free.
+#[tactic(auto, using(arrays::proofs::Places::found_low), unfolding(crate::specs::State::is_not_open))]
+pub fn lowest_free(connections: &[Connection; 8]) -> Option<usize>
+    ensures place { result ≡ position is_not_open connections.now }
+    ensures low { IfSome result (λ n. n < 8) }
 {
-    let mut i: usize = 0;
-    while i < CONNECTIONS {
-        let c = connections[i];
-        if !c.live {
-            return i;
-        }
-        i += 1;
-    }
-    i
+    connections.iter().position(|c| !c.live)
 }
 
-// The lowest connection due, or 8.
-#[tactic(auto, using(crate::proofs::Times::due_is, laws::proofs::Loops::searching_none, laws::proofs::Loops::searching_more, laws::proofs::Loops::searching_here, laws::proofs::Loops::searching_end))]
-pub fn lowest_due(connections: &[Connection; 8]) -> usize
-    ensures { result ≡ lowest_due connections.now }
+/// The lowest connection that is due, if one is.
+#[tactic(auto, using(arrays::proofs::Places::found_low), unfolding(crate::specs::State::is_due))]
+pub fn lowest_due(connections: &[Connection; 8]) -> Option<usize>
+    ensures place { result ≡ position is_due connections.now }
+    ensures low { IfSome result (λ n. n < 8) }
 {
-    let mut i: usize = 0;
-    while i < CONNECTIONS {
-        let c = connections[i];
-        if c.due {
-            return i;
-        }
-        i += 1;
-    }
-    i
+    connections.iter().position(|c| c.due)
 }
 
-#[tactic(auto, using(laws::proofs::Loops::testing_none, laws::proofs::Loops::testing_more, laws::proofs::Loops::testing_not, laws::proofs::Loops::testing_end))]
+/// Each connection keeps the record rules.
 pub fn all_obey(connections: &[Connection; 8]) -> bool
     ensures { result ≡ all connection_obeys connections.now }
 {
-    let mut i: usize = 0;
-    while i < CONNECTIONS {
-        let c = connections[i];
-        if !c.obeys() {
-            return false;
-        }
-        i += 1;
-    }
-    true
+    connections.iter().all(|c| c.obeys())
 }
 
-// Bit n is set where the tick closes connection n.
+/// Bit n is set where a tick of `step` milliseconds closes connection n.
 #[tactic(auto, using(laws::proofs::Loops::masking_none, laws::proofs::Loops::masking_set, laws::proofs::Loops::masking_clear, laws::proofs::Loops::masking_low, laws::proofs::Loops::masking_all, crate::proofs::Times::obeys_before))]
 pub fn closing(connections: &[Connection; 8], step: u32) -> u8
     requires { (all connection_obeys connections.now ≡ true) × (step < 2 ^ 31) }
@@ -275,6 +266,7 @@ pub fn closing(connections: &[Connection; 8], step: u32) -> u8
     m
 }
 
+/// Each connection after a tick of `step` milliseconds.
 #[tactic(auto, using(crate::proofs::Times::obeys_at))]
 pub fn all_ticked(connections: &mut [Connection; 8], step: u32)
     requires { (all connection_obeys connections.old ≡ true) × (step < 2 ^ 31) }
@@ -283,13 +275,13 @@ pub fn all_ticked(connections: &mut [Connection; 8], step: u32)
     arrays::map_in_place(connections, |c| c.ticked(step));
 }
 
-// The rules are kept by whatever happens to a connection; it has a line in the verdict as this contract.
+/// The rules are kept by whatever happens to a connection: a theorem, with a line in the verdict as this contract.
 #[tactic(auto, using(crate::proofs::Keeps::supervision_kept))]
 pub fn supervision_kept()
     ensures { SupervisionKept }
 {}
 
-// Two ticks of a connection come to one tick of both steps.
+/// Two ticks of a connection come to one tick of both steps: a theorem.
 #[tactic(auto, using(crate::proofs::Keeps::steps_add))]
 pub fn steps_add()
     ensures { StepsAdd }

@@ -12,6 +12,9 @@ use lib.Seq.{length-take-le}
 use borrow.Author.Tests.{ne_eqb, le-ltb}
 use Rattle.laws.proofs.Conds.{either}
 use Rattle.laws.proofs.Parts.{nil_of}
+use Rattle.numbers.specs.declared.Refusal.TheVariants as refusals
+use Rattle.writer.specs.Scaffold.{length_by}
+use Rattle.numbers.specs.declared.Fault.TheVariants as faults
 use Rattle.numbers.specs.Refusal.{fault, bad_entry}
 use Rattle.numbers.specs.Fault.{fault_data}
 use Rattle.frame.specs.Limits.{header_end, response, keep_alive}
@@ -34,7 +37,7 @@ use Rattle.reader.specs.Entry.{entry_by, entry_of, part_by, part_of}
 use Rattle.reader.specs.Context.{context_by, entry_context}
 use Rattle.writer.specs.Numbers.{Writing, written_numbers}
 use Rattle.writer.specs.Write.{least_room, unwritten, start_of, append_sound, append_of}
-use Rattle.writer.proofs.Outcomes.{append_sound_lem, append_fault}
+use Rattle.writer.proofs.Outcomes.{append_sound_lem, append_unsound}
 use Rattle.area.specs.Area.{area_bytes, undecided_of}
 use Rattle.replies.specs.Bytes.{least_output}
 use Rattle.delivery.specs.Intake.{delivered_by, taken_in}
@@ -70,17 +73,17 @@ module _ (s : List ℕ) (i : ℕ) (a : Headed s i) (none : entry_size (pdu_type 
   unfolding data_sound
   data_short = simp (ne_eqb (pdu_type s) keep_alive (λ q. omega (arith, a.type)), entries_short)
 
-  decided_data : decide s ≡ Faulty fault_data size
+  decided_data : decide s ≡ Faulty faults.Data size
   unfolding decide_data
   decided_data =
       let w = take size s in
       let d : data_sound (pdu_type w) (message_count w) (drop header_end w) ≡ false =
       rw (type_take size s low, count_take size s low) data_short in
       way_back s (decide_data w) (whole a.first (omega (arith, low, a.whole)) a.header a.whole)
-      ∙ simp d (ap (Faulty fault_data) (length-take-le size s a.whole))
+      ∙ simp d (ap (Faulty faults.Data) (length-take-le size s a.whole))
 
 -- ---- what each call makes of it
-module _ (Bad : List ℕ → ℕ → Type 0) (BadEntry : ℕ → List ℕ → Type 0) (decided : (s : List ℕ) (i : ℕ) → Bad s i → decide s ≡ Faulty fault_data (message_length s)) (unformed : (kind : ℕ) (e : List ℕ) → BadEntry kind e → well_formed kind e ≡ false) where
+module _ (Bad : List ℕ → ℕ → Type 0) (BadEntry : ℕ → List ℕ → Type 0) (decided : (s : List ℕ) (i : ℕ) → Bad s i → decide s ≡ Faulty faults.Data (message_length s)) (unformed : (kind : ℕ) (e : List ℕ) → BadEntry kind e → well_formed kind e ≡ false) where
   read : (s : List ℕ) (i : ℕ) → Bad s i → read_of s ≡ fault ∷ fault_data ∷ []
   unfolding read_of read_by
   read s i a = ap (λ (d : Decision). read_by d s) (decided s i a)
@@ -111,8 +114,8 @@ module _ (Bad : List ℕ → ℕ → Type 0) (BadEntry : ℕ → List ℕ → Ty
       go false x = refl
 
   behind : (buf : List ℕ) (kind : ℕ) (e : List ℕ) (i : ℕ) → least_room ≤ length buf → Bad buf i → append_of buf kind e ≡ behind_fault buf
-  unfolding written_numbers
-  behind buf kind e i room a = sym (append_fault buf kind e room fault_data (message_length buf) (decided buf i a))
+  unfolding written_numbers length_by
+  behind buf kind e i room a = sym (append_unsound buf kind e room (refusals.Fault faults.Data) (rw (decided buf i a)))
 
   delivered : (r : Record) (area : List ℕ) (n : ℕ) (piece out : List ℕ) (i : ℕ) → Delivers r area n out
       → Bad (undecided_of area n (held_at r n) ++ piece) i
@@ -146,7 +149,7 @@ module _ (Bad : List ℕ → ℕ → Type 0) (BadEntry : ℕ → List ℕ → Ty
       }
 
 -- ---- a count without bytes
-announced : (s : List ℕ) (i : ℕ) → Announces s i → decide s ≡ Faulty fault_data (message_length s)
+announced : (s : List ℕ) (i : ℕ) → Announces s i → decide s ≡ Faulty faults.Data (message_length s)
 announced s i a = decided_data s i a.headed (count_tells.announced (pdu_type s) (bytes_from s i) a.size a.count)
 
 unannounced : (kind : ℕ) (e : List ℕ) → Announced kind e → well_formed kind e ≡ false
@@ -166,7 +169,7 @@ counts_refuse = all_refuse Announces Announced announced unannounced
 no_size : (kind : ℕ) (t : List ℕ) → BadContext kind t → entry_size kind t ≡ 0
 no_size kind t b = ⊎_elim (λ h. context_tells.long kind t (omega (arith, h))) (λ h. context_tells.past kind t h) b.over
 
-bad_context : (s : List ℕ) (i : ℕ) → HasBadContext s i → decide s ≡ Faulty fault_data (message_length s)
+bad_context : (s : List ℕ) (i : ℕ) → HasBadContext s i → decide s ≡ Faulty faults.Data (message_length s)
 bad_context s i a = decided_data s i a.headed (no_size (pdu_type s) (bytes_from s i) a.context)
 
 no_entry_lem : (kind : ℕ) (e : List ℕ) → BadContext kind e → well_formed kind e ≡ false

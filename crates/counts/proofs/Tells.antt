@@ -8,6 +8,7 @@ use lib.Dec.{ltb, eqb}
 use lib.ListN.{length, get_or, take, drop, length-drop}
 use lib.Seq.{length-take-le}
 use borrow.Author.Tests.{eq-eqb, ne_eqb, ltb-true, eqb-true, eqb-false}
+use Rattle.std.specs.Prelude.{Ok}
 use Rattle.laws.proofs.Conds.{cond_right}
 use Rattle.laws.proofs.Parts.{nil_of}
 use Rattle.octets.specs.Numbers.{be16_at}
@@ -122,26 +123,26 @@ bare_as s i answer f least count p q =
     (λ z. f.part ∙ t.0 (q ∙ z ∙ sym p), λ z. sym q ∙ t.1 (sym f.part ∙ z) ∙ p)
 
 module _ (s : List ℕ) (i : ℕ) where
-  command : (c : CommandFields) → ReadsEntry s i (Command c) → NoneIsBare 0 c.count (part_of s i)
+  command : (c : CommandFields) → ReadsEntry s i (Ok (Command c)) → NoneIsBare 0 c.count (part_of s i)
   unfolding entry_numbers command_numbers
   command c h =
-      let f = found s i (entry_numbers (Command c)) (omega arith) (sym h) in
-      let n = (counted f.kind f.bytes (entry_numbers (Command c)) f.fields).0 refl in
-      bare_as s i (entry_numbers (Command c)) f 0 c.count n.0 n.1
+      let f = found s i (entry_numbers (Ok (Command c))) (omega arith) (sym h) in
+      let n = (counted f.kind f.bytes (entry_numbers (Ok (Command c))) f.fields).0 refl in
+      bare_as s i (entry_numbers (Ok (Command c))) f 0 c.count n.0 n.1
 
-  notified : (n : NotificationFields) → ReadsEntry s i (Notification n) → NoneIsBare 1 n.count (part_of s i)
+  notified : (n : NotificationFields) → ReadsEntry s i (Ok (Notification n)) → NoneIsBare 1 n.count (part_of s i)
   unfolding entry_numbers notification_numbers
   notified c h =
-      let f = found s i (entry_numbers (Notification c)) (omega arith) (sym h) in
-      let n = (counted f.kind f.bytes (entry_numbers (Notification c)) f.fields).1 refl in
-      bare_as s i (entry_numbers (Notification c)) f 1 c.count n.0 n.1
+      let f = found s i (entry_numbers (Ok (Notification c))) (omega arith) (sym h) in
+      let n = (counted f.kind f.bytes (entry_numbers (Ok (Notification c))) f.fields).1 refl in
+      bare_as s i (entry_numbers (Ok (Notification c))) f 1 c.count n.0 n.1
 
-  responded : (r : ResponseFields) → ReadsEntry s i (Response r) → NoneIsBare 0 r.count (part_of s i)
+  responded : (r : ResponseFields) → ReadsEntry s i (Ok (Response r)) → NoneIsBare 0 r.count (part_of s i)
   unfolding entry_numbers response_numbers
   responded c h =
-      let f = found s i (entry_numbers (Response c)) (omega arith) (sym h) in
-      let n = (counted f.kind f.bytes (entry_numbers (Response c)) f.fields).2 refl in
-      bare_as s i (entry_numbers (Response c)) f 0 c.count n.0 n.1
+      let f = found s i (entry_numbers (Ok (Response c))) (omega arith) (sym h) in
+      let n = (counted f.kind f.bytes (entry_numbers (Ok (Response c))) f.fields).2 refl in
+      bare_as s i (entry_numbers (Ok (Response c))) f 0 c.count n.0 n.1
 
 -- ---- a method that takes no parameters
 -- status 4 for its count or its length, and for nothing else
@@ -204,11 +205,11 @@ context_bound : (e : List ℕ) → well_formed notification e ≡ true → be16_
 unfolding context_count
 context_bound e w = context_tells.bounded notification e w
 
-context_told_at : (s : List ℕ) (i : ℕ) (n : NotificationFields) → ReadsEntry s i (Notification n)
+context_told_at : (s : List ℕ) (i : ℕ) (n : NotificationFields) → ReadsEntry s i (Ok (Notification n))
     → (n.context_count ≡ length (entry_context s i)) × (n.context_count ≤ greatest_context)
 unfolding entry_numbers notification_numbers
 context_told_at s i n h =
-    let answer = entry_numbers (Notification n) in
+    let answer = entry_numbers (Ok (Notification n)) in
     let f = found s i answer (omega arith) (sym h) in
     let c = context_counted f.kind f.bytes answer f.fields refl in
     let w : well_formed notification f.bytes ≡ true = rw c.0 at f.well in

@@ -1,5 +1,5 @@
 -- R9, R11, R12. Entries that are not well formed, by a count without bytes or by their context, and messages with such an entry.
-use Rattle.std.specs.Prelude.{ℕ, ◌≤◌, ◌<◌, ◌≡◌, ◌⊎◌, List, length, get_or}
+use Rattle.std.specs.Prelude.{ℕ, ◌≤◌, ◌<◌, ◌≡◌, ◌⊎◌, List, length, get_or, None}
 use Rattle.octets.specs.Numbers.{be32_at}
 use Rattle.frame.specs.Limits.{sync, notification, response, greatest_context}
 use Rattle.frame.specs.Header.{pdu_type, message_count, message_length, header_fault}
@@ -15,7 +15,7 @@ bytes_from s i = entries_from i (pdu_type s) (data_of s (message_length s))
 -- R16. A whole message with a sound header stands at the front of s, and its messageCount is above i.
 pub record Headed (s : List ℕ) (i : ℕ) : Type 0 where
   pub first : get_or s 0 0 ≡ sync
-  pub header : header_fault s ≡ 0
+  pub header : header_fault s ≡ None
   pub whole : message_length s ≤ length s
   pub type : pdu_type s ≤ response
   pub there : i < message_count s

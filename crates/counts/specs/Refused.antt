@@ -3,6 +3,7 @@
 use Rattle.std.specs.Prelude.{ℕ, ◌-◌, ◌≤◌, ◌≡◌, List, [], ◌∷◌, ◌++◌, length}
 use Rattle.numbers.specs.Refusal.{fault, bad_entry}
 use Rattle.numbers.specs.Fault.{fault_data}
+use Rattle.numbers.specs.declared.Fault.TheVariants as faults
 use Rattle.answers.specs.Numbers.{delivery_numbers}
 use Rattle.answers.specs.declared.Delivery.TheVariants.{Closed}
 use Rattle.frame.specs.Header.{message_length}
@@ -34,12 +35,12 @@ behind_fault buf = record { answer = fault ∷ fault_data ∷ []; buffer = buf }
 
 -- R30. The closure of connection n for fault 6: its record and area are those of the host's close, and no output is written.
 abbrev pub closed_for_data : Record → List ℕ → ℕ → ℕ → List ℕ → Outcome
-closed_for_data r area n taken out = outcome (delivery_numbers (Closed taken fault_data)) (closed_state r n) (part_cleared area n) out
+closed_for_data r area n taken out = outcome (delivery_numbers (Closed taken faults.Data)) (closed_state r n) (part_cleared area n) out
 
 -- R16, R19, R20, R21, R25, R26, R30, R79. Messages with an entry that is Bad, and such an entry by itself, are refused by each call.
 pub record Refuses (Bad : List ℕ → ℕ → Type 0) (BadEntry : ℕ → List ℕ → Type 0) : Type 0 where
   -- the message's last byte decides
-  pub decided : (s : List ℕ) (i : ℕ) → Bad s i → decide s ≡ Faulty fault_data (message_length s)
+  pub decided : (s : List ℕ) (i : ℕ) → Bad s i → decide s ≡ Faulty faults.Data (message_length s)
   -- the reader: 8 with fault 6, whichever entry is asked for, and neither part nor context
   pub message : (s : List ℕ) (i : ℕ) → Bad s i → read_of s ≡ fault ∷ fault_data ∷ []
   pub entry : (s : List ℕ) (i j : ℕ) → Bad s i → entry_of s j ≡ fault ∷ fault_data ∷ []

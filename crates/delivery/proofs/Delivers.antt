@@ -6,6 +6,7 @@ use lib.ListN.{length, take}
 use lib.Seq.{sets}
 use Rattle.answers.specs.Numbers.{delivery_numbers}
 use Rattle.answers.specs.declared.Delivery.TheVariants.{More, Message, Closed}
+use Rattle.numbers.specs.declared.Fault.{Fault}
 use Rattle.frame.specs.Decide.{decide}
 use Rattle.frame.specs.declared.Decision.TheVariants.{Undecided, Faulty, Sound}
 use Rattle.layout.specs.Message.{at_front}
@@ -27,7 +28,7 @@ module _ (d : Device) (area : List ℕ) (n k : ℕ) (piece out : List ℕ) where
   unfolding taken_in delivered_by
   taken_waits a e e1 = rw (e, e1)
 
-  pub taken_closed : (fault t : ℕ) (s : Device) (a : List ℕ) → decide (undecided_of area n k ++ piece) ≡ Faulty fault t
+  pub taken_closed : (fault : Fault) (t : ℕ) (s : Device) (a : List ℕ) → decide (undecided_of area n k ++ piece) ≡ Faulty fault t
       → s ≡ close_of d n → a ≡ part_cleared area n
       → intake (delivery_numbers (Closed (t - k) fault)) s 0 a out ≡ taken_in d area n k piece out
   unfolding taken_in delivered_by

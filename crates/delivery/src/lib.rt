@@ -1,4 +1,4 @@
-// What a piece of an open connection does: it is gathered and decided, and then waits, closes or runs.
+//! What a piece of an open connection does: it is gathered and decided, and then waits, closes or runs.
 #![tactic(auto)]
 
 ghost use Rattle.std.specs.Prelude.{◌≡◌, ◌-◌, ◌≤◌, length};
@@ -36,7 +36,8 @@ fn run(
     Delivery::Message(t - k, length)
 }
 
-// A piece of connection n, which is open and has `held` undecided bytes.
+/// A piece of connection `n`, which is open and has `held` undecided bytes: taken as far as the first byte that decides. The output
+/// has 4,096 bytes at least, and the reply to a sound message stands at its front.
 #[tactic(auto, using(area::proofs::Gathers::waits_few, area::proofs::Gathers::waits_gathered, area::proofs::Gathers::cleared_gathered, area::proofs::Gathers::decided_behind, area::proofs::Gathers::message_lies, area::proofs::Gathers::message_whole, device::proofs::Times::close_device, crate::proofs::Delivers::taken_waits, crate::proofs::Delivers::taken_closed, crate::proofs::Delivers::taken_runs), unfolding(frame::specs::Decide::taken, frame::specs::Decide::settled))]
 pub fn take_in(
     device: &mut Device,

@@ -1,9 +1,9 @@
 -- A closure frees what the connection had, and nothing else. No code is named. Assumes nothing.
 use Rattle.std.proofs.Common.{◌≡◌, ℕ, ◌+◌, ◌-◌, ◌<◌, Bool, true, false, cond, not, ◌&&◌, eqb, ltb, List, [], map, length, get_or, set, sym, refl, ap, ◌∙◌, ⊎_elim, arith, get_or-set_other, get_or-set_same, ltb-false, ltb-true, ne_eqb, eqb-true}
-use mathlib.Core.Bool.{and-false}
-use borrow.Author.Tests.{eqb-false}
-use lib.ListN.{get_or-eq_default, get_or-map}
-use lib.Seq.{set_out}
+use Rattle.std.proofs.Math.Bool.{and-false}
+use Rattle.std.proofs.lemmas.Bool.{eqb-false}
+use Rattle.std.proofs.Math.ListN.{get_or-eq_default, get_or-map}
+use Rattle.std.proofs.Math.Seq.{set_out}
 use Rattle.laws.proofs.Tables.{clash, map_same, map_all, map_map}
 use Rattle.connection.specs.State.{closed, live_at}
 use Rattle.connection.specs.Supervision.{connection_ticked}

@@ -1,11 +1,11 @@
 -- Each outcome of a command, from what led to it. Assumes nothing.
 use Rattle.std.proofs.Common.{◌≡◌, ℕ, ◌+◌, ◌<◌, ◌≤◌, Bool, true, false, cond, not, eqb, ltb, List, [], ◌∷◌, map, length, get_or, set, sym, refl, ap, ◌∙◌, arith, le-ltb, lt-ltb, eq-eqb, ne_eqb, eqb-true, le-leb}
-use mathlib.Core.Bool.{or-false}
-use borrow.Author.Tests.{eqb-false, not-true, not-false}
+use Rattle.std.proofs.Math.Bool.{or-false}
+use Rattle.std.proofs.lemmas.Bool.{eqb-false, not-true, not-false}
 use Rattle.laws.specs.Lists.{any}
 use Rattle.laws.proofs.Tables.{any_index, clash}
 use Rattle.mechanism.specs.Arguments.{is_untaken, armed_by, arming_of}
-use Rattle.mechanism.specs.declared.Arming.{Arming}
+use Rattle.mechanism.specs.Arguments.{Arming}
 use Rattle.subscription.specs.Setters.{with_context}
 use Rattle.subscription.specs.State.{is_twin, is_unused, twin_at, lowest_unused, free, marked_of}
 use Rattle.subscription.specs.Arguments.{context_held, subscription_from, is_strange, is_emitter_bad}
@@ -13,7 +13,7 @@ use Rattle.subscription.specs.declared.Subscription.{Subscription}
 use Rattle.objects.specs.Methods.{is_mute, class_method, lockable_method, lock_method, unlock_method, get_method, set_method, add_method, remove_method, reset_key_method, place_of, is_manager, is_object, is_telling, is_locking, is_muting, is_subscribing, has_method}
 use Rattle.objects.specs.Tests.{is_forbidden, count_of, length_of, is_length_bad, is_pair_bad, is_malformed, is_mute_value, context_given, is_add_bad, is_value_bad, first_status}
 use Rattle.objects.specs.Answers.{class_of, identification_of, reply_of, failed_of, answer_with}
-use Rattle.objects.specs.declared.Answer.{Answer}
+use Rattle.objects.specs.Answers.{Carried as Answer}
 use Rattle.holders.specs.Holders.{owner_of, is_other}
 use Rattle.device.specs.Setters.{with_subscriptions, with_mutes, with_holders, with_mechanism}
 use Rattle.device.specs.Run.{holder_at, mute_at, is_held_by_other, is_subscribed, is_out_of_turn, is_full, later_status, first_failing, status_of, muted_of, done_of, answer_of, unchanged, ran_by, run_of}

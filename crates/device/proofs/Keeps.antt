@@ -1,6 +1,7 @@
 -- Every call keeps the record rules. No code is named. Assumes nothing.
+use Rattle.std.specs.Prelude.{Some, None}
 use Rattle.std.proofs.Common.{◌≡◌, ℕ, ◌^◌, ◌<◌, Bool, true, false, cond, not, ◌&&◌, ◌||◌, eqb, leb, List, map, length, get_or, set, refl, ap, ◌∙◌, arith, get_or-set_other, get_or-set_same, eqb-true}
-use borrow.Author.Tests.{eqb-false, not-false}
+use Rattle.std.proofs.lemmas.Bool.{eqb-false, not-false}
 use Rattle.laws.specs.Lists.{all, any, all_pairs, mask}
 use Rattle.laws.proofs.Conds.{and_left, and_right, cond_right}
 use Rattle.laws.proofs.Tables.{or_neither, all_set, all_map, all_weaken, all_true, all_get_d, pairs_like, pairs_map, pairs_set, none_all}
@@ -32,16 +33,12 @@ use Rattle.objects.specs.Answers.{failed_of}
 use Rattle.holders.specs.Holders.{owner_of, holder_obeys, swept_holder}
 use Rattle.holders.proofs.Keeps.{holders_kept}
 use Rattle.device.specs.Setters.{with_connections, with_subscriptions, with_mutes, with_holders, with_mechanism}
-use Rattle.device.specs.State.{fresh_of, open_of, sweep_of, close_of, at_connection, heard_at, sent_at, told_at, beating_at}
+use Rattle.device.specs.State.{Opened, fresh_of, open_of, sweep_of, close_of, at_connection, heard_at, sent_at, told_at, beating_at}
 use Rattle.device.specs.Obeys.{device_obeys}
-use Rattle.device.specs.Time.{step_of, advanced, tick_step, tick_of}
+use Rattle.device.specs.Time.{Ticked, step_of, advanced, tick_step, tick_of}
 use Rattle.device.specs.Run.{holder_at, mute_at, is_held_by_other, is_subscribed, is_out_of_turn, later_status, status_of, muted_of, done_of, answer_of, unchanged, ran_by, run_of}
 use Rattle.device.specs.Kept.{RulesKept, FailuresChangeNothing}
 use Rattle.device.specs.declared.Device.{Device}
-use Rattle.device.specs.declared.Opened.{Opened}
-use Rattle.device.specs.declared.Opening.TheVariants.{Number, Full}
-use Rattle.device.specs.declared.Ticked.{Ticked}
-use Rattle.device.specs.declared.Ticking.TheVariants.{Closed, ClockBack}
 use Rattle.device.specs.Run.{Ran}
 use Rattle.device.proofs.Commands.{neither_fails}
 
@@ -159,11 +156,11 @@ opening d h = go (any is_not_open d.connections)
     done =
         record {
           device = with_connections d (set d.connections (lowest_free d.connections) opened);
-          answer = Number (lowest_free d.connections);
+          answer = Some (lowest_free d.connections);
         }
 
     full : Opened
-    full = record { device = d; answer = Full }
+    full = record { device = d; answer = None }
 
     go : (t : Bool) → device_obeys (cond {A = Opened} t done full).device ≡ true
     go true =
@@ -201,13 +198,13 @@ ticking d reading h = back (leb (2 ^ 31) s)
     done =
         record {
           device = sweep_of (advanced d reading (map (connection_ticked s) d.connections));
-          answer = Closed (mask (closes_at s) d.connections);
+          answer = Some (mask (closes_at s) d.connections);
         }
 
     keeps : device_obeys done.device ≡ true
     keeps = sweep_keeps d reading _ h (all_map connection_obeys connection_obeys (connection_ticked s) (supervision_kept.ticking s) d.connections (obeys_are d h).connections)
 
-    back : (t : Bool) → device_obeys (cond {A = Ticked} t (record { device = d; answer = ClockBack }) done).device ≡ true
+    back : (t : Bool) → device_obeys (cond {A = Ticked} t (record { device = d; answer = None }) done).device ≡ true
     back true = h
     back false = keeps
 

@@ -1,6 +1,6 @@
 -- Which command it is, and what its arguments are. Assumes nothing.
 use Rattle.std.proofs.Common.{◌≡◌, ℕ, ◌+◌, ◌<◌, Bool, true, false, ◌&&◌, ◌||◌, eqb, ◌⊎◌, List, [], ◌∷◌, length, get_or, sym, refl, ap, ◌∙◌, inl, inr, arith, ne_eqb, eqb-true}
-use mathlib.Core.Bool.{and-true, or-false}
+use Rattle.std.proofs.Math.Bool.{and-true, or-false}
 use Rattle.laws.proofs.Parts.{nil_of}
 use Rattle.laws.proofs.Tables.{or_cases}
 use Rattle.mechanism.specs.Arguments.{is_misfit}
@@ -9,7 +9,7 @@ use Rattle.objects.specs.Methods.{is_mute, class_method, lockable_method, lock_m
 use Rattle.objects.specs.Tests.{is_forbidden, count_of, context_given, length_of, is_length_bad, is_pair_bad, is_malformed, is_value_bad, first_status}
 use Rattle.objects.specs.Scaffold.{Allowed}
 use Rattle.objects.specs.Answers.{failed_of}
-use Rattle.objects.specs.declared.Answer.{Answer}
+use Rattle.objects.specs.Answers.{Carried as Answer}
 use Rattle.objects.proofs.Shapes.{mute_at_lem, formed_are, first_allowed}
 use Rattle.device.specs.Run.{is_held_by_other, is_out_of_turn, is_full, later_status, status_of, done_of, answer_of, unchanged, run_of}
 use Rattle.device.specs.declared.Device.{Device}

@@ -1,6 +1,6 @@
 -- Two ticks of a device come to one of both steps, and a step of 0 to nothing. No code is named. Assumes nothing.
 use Rattle.std.proofs.Common.{◌≡◌, ℕ, ◌+◌, Bool, true, false, cond, not, List, [], ◌∷◌, map, get_or, sym, refl, ap, ◌∙◌, ⊎_elim}
-use lib.ListN.{get_or-map}
+use Rattle.std.proofs.Math.ListN.{get_or-map}
 use Rattle.laws.specs.Lists.{all}
 use Rattle.laws.proofs.Conds.{and_left}
 use Rattle.laws.proofs.Tables.{clash, map_same, map_map, map_all}

@@ -1,13 +1,15 @@
 -- Opening, closing and ticks, case by case. Assumes nothing.
-use Rattle.std.proofs.Common.{◌≡◌, ℕ, ◌^◌, ◌<◌, ◌≤◌, Bool, true, false, leb, List, map, length, get_or, set, sym, refl, ap, ◌∙◌, arith, le-ltb, lt-ltb, le-leb}
-use borrow.Author.Tests.{lt-leb}
-use lib.Seq.{set_out}
+use Rattle.std.proofs.Common.{◌≡◌, ℕ, ◌^◌, ◌<◌, ◌≤◌, Bool, true, false, leb, List, map, length, get_or, set, sym, refl, ap, ◌∙◌, arith, lt-ltb, le-leb}
+use Rattle.std.proofs.lemmas.Bool.{lt-leb}
+use Rattle.std.proofs.Math.Seq.{set_out}
+use Rattle.std.specs.Prelude.{Some, None, position}
 use Rattle.laws.specs.Lists.{all, mask}
+use Rattle.arrays.proofs.Places.{found_number, found_low}
 use Rattle.laws.proofs.Conds.{either}
 use Rattle.laws.proofs.Tables.{any_index, get_d_any}
 use Rattle.heartbeat.specs.declared.Heartbeat.{Heartbeat}
 use Rattle.connection.specs.Obeys.{connection_obeys}
-use Rattle.connection.specs.State.{closed, opened, live_at, is_not_open, lowest_free}
+use Rattle.connection.specs.State.{closed, opened, live_at, is_not_open}
 use Rattle.connection.specs.Supervision.{closes_at, connection_ticked, heard_of, sent_of, beating_of}
 use Rattle.connection.specs.declared.Connection.{Connection}
 use Rattle.connection.proofs.Times.{live_below}
@@ -16,14 +18,9 @@ use Rattle.subscription.specs.declared.Subscription.{Subscription}
 use Rattle.holders.specs.Holders.{swept_holder}
 use Rattle.device.specs.Setters.{with_connections, with_subscriptions, with_holders}
 use Rattle.device.specs.Obeys.{device_obeys}
-use Rattle.device.specs.State.{open_of, sweep_of, close_of, closing_of, at_connection, heard_at, sent_at, beating_at}
-use Rattle.device.specs.Time.{step_of, advanced, tick_step, tick_of}
+use Rattle.device.specs.State.{Opened, open_of, sweep_of, close_of, closing_of, at_connection, heard_at, sent_at, beating_at}
+use Rattle.device.specs.Time.{Ticked, step_of, advanced, tick_step, tick_of}
 use Rattle.device.specs.declared.Device.{Device}
-use Rattle.device.specs.declared.Opened.{Opened}
-use Rattle.device.specs.declared.Opening.TheVariants.{Number, Full}
-use Rattle.device.specs.declared.Closing.TheVariants.{Done, NotOpen}
-use Rattle.device.specs.declared.Ticked.{Ticked}
-use Rattle.device.specs.declared.Ticking.TheVariants as ticks
 use Rattle.device.proofs.Keeps.{obeys_are}
 
 -- ---- one connection changed
@@ -63,14 +60,9 @@ module _ (d : Device) (n : ℕ) where
   unfolding closing_of close_of
   close_left cs w r e = rw (e, w)
 
-  module _ (b : Bool) (q : b ≡ live_at d.connections n) where
-    pub close_not : b ≡ false → NotOpen ≡ (closing_of d n).answer
-    unfolding closing_of
-    close_not t = rw (← q, t)
-
-    pub close_done : b ≡ true → Done ≡ (closing_of d n).answer
-    unfolding closing_of
-    close_done t = rw (← q, t)
+  pub close_told : (b : Bool) → b ≡ live_at d.connections n → b ≡ (closing_of d n).answer
+  unfolding closing_of
+  close_told b q = q
 
 -- what a close leaves
 pub close_device : (d : Device) (n : ℕ) (x : Device) → x ≡ (closing_of d n).device → x ≡ close_of d n
@@ -78,26 +70,35 @@ unfolding closing_of
 close_device d n x e = e
 
 -- ---- opening
-module _ (d : Device) (n : ℕ) (q : n ≡ lowest_free d.connections) (e : length d.connections ≡ 8) where
-  full : 8 ≤ n → open_of d ≡ record { device = d; answer = Full }
-  unfolding open_of
-  full h = rw (any_index is_not_open d.connections, ← q, e, le-ltb n 8 h)
+-- w says what the search for a free connection gave
+module _ (d : Device) (e : length d.connections ≡ 8) where
+  module _ (w : None ≡ position is_not_open d.connections) where
+    full : open_of d ≡ record { device = d; answer = None }
+    unfolding open_of
+    full = rw (any_index is_not_open d.connections, ← found_number is_not_open d.connections 8 None w e, e)
 
-  done : n < 8 → open_of d ≡ record { device = with_connections d (set d.connections n opened); answer = Number n }
-  unfolding open_of
-  done h = rw (any_index is_not_open d.connections, ← q, e, lt-ltb n 8 h)
+    pub open_full : d ≡ (open_of d).device
+    open_full = sym (ap (λ (o : Opened). o.device) full)
 
-  pub open_full : 8 ≤ n → d ≡ (open_of d).device
-  open_full h = sym (ap (λ (o : Opened). o.device) (full h))
+    pub told_full : None ≡ (open_of d).answer
+    told_full = sym (ap (λ (o : Opened). o.answer) full)
 
-  pub told_full : 8 ≤ n → Full ≡ (open_of d).answer
-  told_full h = sym (ap (λ (o : Opened). o.answer) (full h))
+  module _ (n : ℕ) (w : Some n ≡ position is_not_open d.connections) where
+    done : open_of d ≡ record { device = with_connections d (set d.connections n opened); answer = Some n }
+    unfolding open_of
+    done =
+        rw (
+          any_index is_not_open d.connections,
+          ← found_number is_not_open d.connections 8 (Some n) w e,
+          e,
+          lt-ltb n 8 (found_low is_not_open d.connections 8 (Some n) w e),
+        )
 
-  pub open_done : n < 8 → with_connections d (set d.connections n opened) ≡ (open_of d).device
-  open_done h = sym (ap (λ (o : Opened). o.device) (done h))
+    pub open_done : with_connections d (set d.connections n opened) ≡ (open_of d).device
+    open_done = sym (ap (λ (o : Opened). o.device) done)
 
-  pub told_number : n < 8 → Number n ≡ (open_of d).answer
-  told_number h = sym (ap (λ (o : Opened). o.answer) (done h))
+    pub told_number : Some n ≡ (open_of d).answer
+    told_number = sym (ap (λ (o : Opened). o.answer) done)
 
 -- ---- sweeping
 pub swept_all : (d : Device) (ss : List Subscription) (hs : List ℕ) → ss ≡ map (swept_of d.connections) d.subscriptions → hs ≡ map (swept_holder d.connections) d.holders → with_holders (with_subscriptions d ss) hs ≡ sweep_of d
@@ -109,28 +110,28 @@ pub tick_ready : (d : Device) (step : ℕ) → device_obeys d ≡ true → step 
 tick_ready d step h b = ((obeys_are d h).connections, b)
 
 module _ (d : Device) (reading s : ℕ) (e : s ≡ step_of reading d.reading) where
-  back : 2147483648 ≤ s → tick_of d reading ≡ record { device = d; answer = ticks.ClockBack }
+  back : 2147483648 ≤ s → tick_of d reading ≡ record { device = d; answer = None }
   unfolding tick_step
   back h = rw (← e, le-leb _ _ h)
 
-  passed : s < 2147483648 → tick_of d reading ≡ record { device = sweep_of (advanced d reading (map (connection_ticked s) d.connections)); answer = ticks.Closed (mask (closes_at s) d.connections) }
+  passed : s < 2147483648 → tick_of d reading ≡ record { device = sweep_of (advanced d reading (map (connection_ticked s) d.connections)); answer = Some (mask (closes_at s) d.connections) }
   unfolding tick_step
   passed h = rw (← e, lt-leb _ _ h)
 
   pub tick_back : 2147483648 ≤ s → d ≡ (tick_of d reading).device
   tick_back h = sym (ap (λ (t : Ticked). t.device) (back h))
 
-  pub back_told : 2147483648 ≤ s → ticks.ClockBack ≡ (tick_of d reading).answer
+  pub back_told : 2147483648 ≤ s → None ≡ (tick_of d reading).answer
   back_told h = sym (ap (λ (t : Ticked). t.answer) (back h))
 
   pub tick_done : (cs : List Connection) (r : Device) → s < 2147483648 → cs ≡ map (connection_ticked s) d.connections → r ≡ sweep_of (advanced d reading cs) → r ≡ (tick_of d reading).device
   tick_done cs r h ec er = er ∙ rw ec (sym (ap (λ (t : Ticked). t.device) (passed h)))
 
-  pub done_told : (m : ℕ) → s < 2147483648 → m ≡ mask (closes_at s) d.connections → ticks.Closed m ≡ (tick_of d reading).answer
+  pub done_told : (m : ℕ) → s < 2147483648 → m ≡ mask (closes_at s) d.connections → Some m ≡ (tick_of d reading).answer
   done_told m h em = rw em (sym (ap (λ (t : Ticked). t.answer) (passed h)))
 
 -- a tick that goes back hands back the device as it was
-pub back_same : (d : Device) (reading : ℕ) (k : Ticked) → k ≡ tick_of d reading → k.answer ≡ ticks.ClockBack → k.device ≡ d
+pub back_same : (d : Device) (reading : ℕ) (k : Ticked) → k ≡ tick_of d reading → k.answer ≡ None → k.device ≡ d
 unfolding tick_step
 back_same d reading k q a =
     ap (λ (t : Ticked). t.device) q
@@ -138,4 +139,4 @@ back_same d reading k q a =
     (sym (ap (λ (t : Ticked). t.answer) q) ∙ a)
   where
     P : Ticked → Type 0
-    P t = t.answer ≡ ticks.ClockBack → t.device ≡ d
+    P t = t.answer ≡ None → t.device ≡ d

@@ -8,7 +8,7 @@ use Rattle.subscription.specs.Arguments.{subscription_from, is_emitter_bad}
 use Rattle.objects.specs.Methods.{lock_method, unlock_method, set_method, add_method, remove_method, reset_key_method, place_of, is_locking}
 use Rattle.objects.specs.Tests.{is_value_bad, first_status}
 use Rattle.objects.specs.Answers.{reply_of, failed_of, answer_with}
-use Rattle.objects.specs.declared.Answer.{Answer}
+use Rattle.objects.specs.Answers.{Carried as Answer}
 use Rattle.holders.specs.Holders.{owner_of, is_other}
 use Rattle.device.specs.Setters.{with_subscriptions, with_mutes, with_holders, with_mechanism}
 use Rattle.device.specs.declared.Device.{Device}

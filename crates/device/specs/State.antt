@@ -1,5 +1,5 @@
 -- R3, R57, R58, R60. The device: fresh, opening, closing, and what is heard and sent.
-use Rattle.std.specs.Prelude.{ℕ, Bool, cond, List, map, replicate, slice_index_or, slice_set}
+use Rattle.std.specs.Prelude.{ℕ, Bool, cond, List, Option, Some, None, map, replicate, slice_index_or, slice_set}
 use Rattle.laws.specs.Lists.{any}
 use Rattle.heartbeat.specs.declared.Heartbeat.{Heartbeat}
 use Rattle.connection.specs.State.{connection_count, closed, opened, live_at, is_live, is_not_open, lowest_free}
@@ -11,10 +11,16 @@ use Rattle.objects.specs.Tests.{unmuted}
 use Rattle.holders.specs.Holders.{swept_holder}
 use Rattle.device.specs.Setters.{with_connections, with_subscriptions, with_holders}
 use Rattle.device.specs.declared.Device.{Device}
-use Rattle.device.specs.declared.Opened.{Opened}
-use Rattle.device.specs.declared.Opening.TheVariants.{Number, Full}
-use Rattle.device.specs.declared.Closed.{Closed}
-use Rattle.device.specs.declared.Closing.TheVariants.{Done, NotOpen}
+
+-- R58. What an opening comes to: the device, and the number opened, if one was free.
+pub record Opened : Type 0 where
+  pub device : Device
+  pub answer : Option ℕ
+
+-- R60. What a closing comes to: the device, and whether there was a connection to close.
+pub record Closing : Type 0 where
+  pub device : Device
+  pub answer : Bool
 
 -- R3. There are eight mutes.
 abbrev pub mute_count : ℕ
@@ -42,9 +48,9 @@ open_of d =
     cond (any is_not_open d.connections)
     (record {
       device = with_connections d (slice_set d.connections (lowest_free d.connections) opened);
-      answer = Number (lowest_free d.connections);
+      answer = Some (lowest_free d.connections);
     })
-    (record { device = d; answer = Full })
+    (record { device = d; answer = None })
 
 -- R60. Whatever belongs to a connection that is not open is freed.
 unfoldable pub sweep_of : Device → Device
@@ -57,8 +63,8 @@ unfoldable pub close_of : Device → ℕ → Device
 close_of d n = sweep_of (with_connections d (slice_set d.connections n closed))
 
 -- R59, R60. The closure of connection n, and whether there was a connection to close.
-unfoldable pub closing_of : Device → ℕ → Closed
-closing_of d n = record { device = close_of d n; answer = cond (live_at d.connections n) Done NotOpen }
+unfoldable pub closing_of : Device → ℕ → Closing
+closing_of d n = record { device = close_of d n; answer = live_at d.connections n }
 
 -- R3. Connection n changed by f; a number past the last changes nothing.
 abbrev pub at_connection : (Connection → Connection) → Device → ℕ → Device

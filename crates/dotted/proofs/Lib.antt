@@ -1,4 +1,4 @@
-pub mod Readings
 pub mod Fields
 pub mod Spellings
 pub mod Exacts
+pub mod Parses

@@ -1,8 +1,17 @@
 -- R72. The text of an address, read and written.
 use Rattle.std.specs.Prelude.{ℕ, ◌+◌, ◌-◌, ◌*◌, List, [], ◌∷◌, ◌++◌, map, Bool, true, false, cond, ◌&&◌, eqb, leb}
+use Rattle.std.specs.Prelude.{Option, Some, None}
 use Rattle.laws.specs.Decimal.{decimal_of}
-use Rattle.dotted.specs.declared.Dotted.{Dotted}
-use Rattle.dotted.specs.declared.Part.{Part}
+
+-- R72. What one of the texts between the points says.
+pub record Part : Type 0 where
+  pub sound : Bool
+  pub number : ℕ
+
+-- R72. What a text says: the address is all zero where the text is not sound.
+pub record Dotted : Type 0 where
+  pub sound : Bool
+  pub address : List ℕ
 
 -- R72. The point, in ASCII.
 abbrev pub dot : ℕ
@@ -97,3 +106,7 @@ unfoldable pub text_of : List ℕ → List ℕ
 text_of [] = []
 text_of (n ∷ []) = decimal_of n
 text_of (n ∷ m ∷ ns) = decimal_of n ++ (dot ∷ text_of (m ∷ ns))
+
+-- R72. The address of a text that is sound.
+abbrev pub address_in : Dotted → Option (List ℕ)
+address_in d = cond d.sound (Some d.address) None

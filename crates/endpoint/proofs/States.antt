@@ -1,4 +1,5 @@
 -- Laws of the record, of the lent area, and of the ways of the host's calls. Assumes nothing.
+use Rattle.std.specs.Prelude.{Option, Some, None}
 use Prim.Native.Nat.{ℕ, zero, suc, ◌+◌, ◌<◌, ◌≤◌}
 use mathlib.Core.Path.{◌≡◌, refl, sym, ap, ◌∙◌}
 use mathlib.Core.Bool.{Bool, true, false, true≢false}
@@ -12,25 +13,24 @@ use borrow.Author.Tests.{eq-eqb}
 use Rattle.laws.specs.Lists.{any}
 use Rattle.laws.proofs.Conds.{and_left, either}
 use Rattle.octets.specs.Zeros.{zeros}
-use Rattle.area.specs.Area.{area_bytes, area_sound, part_cleared, closed_cleared, held_kept}
+use Rattle.area.specs.Area.{area_bytes, area_sound, part_at, part_bytes, part_cleared, closed_cleared, held_kept}
 use Rattle.area.proofs.Lies.{area_long}
 use Rattle.connection.specs.State.{closed, live_at, is_not_open}
 use Rattle.connection.specs.Obeys.{connection_obeys}
 use Rattle.connection.specs.declared.Connection.{Connection}
-use Rattle.device.specs.State.{open_of, lives_in}
+use Rattle.device.specs.State.{Opened, open_of, lives_in}
 use Rattle.device.specs.Obeys.{device_obeys}
 use Rattle.device.specs.Time.{tick_of}
 use Rattle.device.specs.declared.Device.{Device}
-use Rattle.device.specs.declared.Opened.{Opened}
-use Rattle.device.specs.declared.Opening.{Opening}
-use Rattle.device.specs.declared.Opening.TheVariants as opening
-use Rattle.device.specs.declared.Ticking.{Ticking}
-use Rattle.device.specs.declared.Ticking.TheVariants as ticking
 use Rattle.device.proofs.Times.{back_same}
 use Rattle.device.proofs.Keeps.{at_obeys}
 use Rattle.endpoint.specs.State.{state_of, record_obeys, closed_state}
-use Rattle.numbers.specs.Refusal.{bad_record, bad_area, no_connection, table_full, clock_back}
-use Rattle.endpoint.specs.Outcome.{Outcome, outcome, refused}
+use Rattle.numbers.specs.Refusal.{table_full, clock_back, refusal_numbers}
+use Rattle.numbers.specs.declared.Refusal.{Refusal}
+use Rattle.numbers.specs.declared.Refusal.TheVariants as refusals
+use Rattle.answers.specs.Numbers.{answer_numbers, opening_numbers}
+use Rattle.std.specs.Option.{ok_or}
+use Rattle.endpoint.specs.Outcome.{Outcome, outcome}
 use Rattle.endpoint.specs.Calls.{clear_answer, cleared_area, opened_by, open_call, close_call, ticked_by, tick_call}
 use Rattle.endpoint.specs.declared.Record.{Record}
 
@@ -88,84 +88,89 @@ pub clear_done : (area next : List ℕ) → length area ≡ area_bytes → next 
 unfolding clear_answer cleared_area
 clear_done area next h q = simp (eq-eqb (length area) area_bytes h) (refl, q ∙ ap zeros h)
 
--- d and t are the device and the answer of the tick
-module _ (r : Record) (area : List ℕ) (reading : ℕ) (d : Device) (x : d ≡ (tick_of r.device reading).device) (t : Ticking) (y : t ≡ (tick_of r.device reading).answer) where
+-- ---- a tick
+-- d is the device behind it
+module _ (r : Record) (area : List ℕ) (reading : ℕ) (d : Device) (x : d ≡ (tick_of r.device reading).device) where
   abbrev After : Outcome
   After = ticked_by (tick_of r.device reading).answer r (tick_of r.device reading) area
 
-  pub tick_closed : (mask : ℕ) → t ≡ ticking.Closed mask
+  pub tick_closed : (mask : ℕ) → Some mask ≡ (tick_of r.device reading).answer
       → (lives : List Bool) (held next : List ℕ) → lives ≡ lives_in d → held ≡ held_kept lives r.held → next ≡ closed_cleared lives area
       → outcome (0 ∷ mask ∷ []) (state_of d held) next [] ≡ After
   unfolding ticked_by
-  tick_closed mask a lives held next ex ey ez = rw (← y, a, ez, ey, ex, x)
+  tick_closed mask a lives held next ex ey ez = rw (← a, ez, ey, ex, x)
 
   -- a refused tick leaves the device as it was
-  pub tick_back : t ≡ ticking.ClockBack → outcome (clock_back ∷ []) (state_of d r.held) area [] ≡ After
+  pub tick_back : None ≡ (tick_of r.device reading).answer → outcome (clock_back ∷ []) (state_of d r.held) area [] ≡ After
   unfolding ticked_by
-  tick_back a = rw (← y, a, x, back_same r.device reading (tick_of r.device reading) refl (sym y ∙ a))
+  tick_back a = rw (← a, x, back_same r.device reading (tick_of r.device reading) refl (sym a))
 
+-- ---- an opening
 -- where all connections are open, the device stays as it is
-full_same : (d : Device) → (open_of d).answer ≡ opening.Full → (open_of d).device ≡ d
+full_same : (d : Device) → (open_of d).answer ≡ None → (open_of d).device ≡ d
 unfolding open_of
 full_same d a = either P (any is_not_open d.connections) _ _ (λ e. absurd (let z : ◌≡◌ {A = ℕ} 0 1 = cc in omega arith)) (λ e. refl) a
   where
     P : Opened → Type 0
-    P o = o.answer ≡ opening.Full → o.device ≡ d
+    P o = o.answer ≡ None → o.device ≡ d
 
--- b is what the call that tests the record gave
-module _ (r : Record) (b : Bool) (tested : b ≡ record_obeys r) where
-  pub open_bad : b ≡ false → refused bad_record r [] [] ≡ open_call r
+-- d and o are the device and the answer of its opening
+module _ (r : Record) (t : record_obeys r ≡ true) (d : Device) (x : d ≡ (open_of r.device).device) where
+  open_number : (n : ℕ) → Some n ≡ (open_of r.device).answer → outcome (0 ∷ n ∷ []) (state_of d r.held) [] [] ≡ open_call r
+  unfolding open_call opened_by
+  open_number n a = rw (t, ← a, x)
+
+  open_full : None ≡ (open_of r.device).answer → outcome (table_full ∷ []) (state_of d r.held) [] [] ≡ open_call r
+  unfolding open_call opened_by
+  open_full a = rw (t, ← a, x, full_same r.device (sym a))
+
+  pub opened : (o : Option ℕ) → o ≡ (open_of r.device).answer
+      → outcome (answer_numbers opening_numbers (ok_or o refusals.TableFull)) (state_of d r.held) [] [] ≡ open_call r
+  opened (Some n) a = open_number n a
+  opened None a = open_full a
+
+-- ---- the refusals in their order; each test is false or true as its check found it
+module _ (r : Record) (t : record_obeys r ≡ false) (e : Refusal) (q : e ≡ refusals.BadRecord) where
+  pub open_bad : outcome (refusal_numbers e) r [] [] ≡ open_call r
   unfolding open_call
-  open_bad t = rw (← tested, t)
+  open_bad = rw (q, t)
 
-  -- d and o are the device and the answer of its opening
-  module _ (t : b ≡ true) (d : Device) (x : d ≡ (open_of r.device).device) (o : Opening) (y : o ≡ (open_of r.device).answer) where
-    pub open_number : (n : ℕ) → o ≡ opening.Number n → outcome (0 ∷ n ∷ []) (state_of d r.held) [] [] ≡ open_call r
-    unfolding open_call opened_by
-    open_number n a = rw (← tested, t, ← y, a, x)
-
-    pub open_full : o ≡ opening.Full → outcome (table_full ∷ []) (state_of d r.held) [] [] ≡ open_call r
-    unfolding open_call opened_by
-    open_full a = rw (← tested, t, ← y, a, x, full_same r.device (sym y ∙ a))
-
-  pub close_bad : b ≡ false → (area : List ℕ) (n : ℕ) → refused bad_record r area [] ≡ close_call r area n
+  pub close_bad : (area : List ℕ) (n : ℕ) → outcome (refusal_numbers e) r area [] ≡ close_call r area n
   unfolding close_call
-  close_bad t area n = rw (← tested, t)
+  close_bad area n = rw (q, t)
 
-  pub tested_device : b ≡ true → device_obeys r.device ≡ true
-  tested_device t = device_obeys_lem r (sym tested ∙ t)
-
-  pub tick_bad : b ≡ false → (area : List ℕ) (reading : ℕ) → refused bad_record r area [] ≡ tick_call r area reading
+  pub tick_bad : (area : List ℕ) (reading : ℕ) → outcome (refusal_numbers e) r area [] ≡ tick_call r area reading
   unfolding tick_call
-  tick_bad t area reading = rw (← tested, t)
+  tick_bad area reading = rw (q, t)
 
-  -- s is what the call that tests the area gave
-  module _ (t : b ≡ true) (area part : List ℕ) (whole : part ≡ area) (s : Bool) (sounded : s ≡ area_sound r.held part) where
-    sound : area_sound r.held area ≡ s
-    sound = rw (← whole) (sym sounded)
-
-    pub close_area : s ≡ false → (n : ℕ) → refused bad_area r area [] ≡ close_call r area n
+module _ (r : Record) (area : List ℕ) (t : record_obeys r ≡ true) where
+  module _ (u : area_sound r.held area ≡ false) (e : Refusal) (q : e ≡ refusals.BadArea) where
+    pub close_area : (n : ℕ) → outcome (refusal_numbers e) r area [] ≡ close_call r area n
     unfolding close_call
-    close_area u n = rw (← tested, t, sound, u)
+    close_area n = rw (q, t, u)
 
-    pub tick_area : s ≡ false → (reading : ℕ) → refused bad_area r area [] ≡ tick_call r area reading
+    pub tick_area : (reading : ℕ) → outcome (refusal_numbers e) r area [] ≡ tick_call r area reading
     unfolding tick_call
-    tick_area u reading = rw (← tested, t, sound, u)
+    tick_area reading = rw (q, t, u)
 
-    module _ (u : s ≡ true) where
-      pub sound_long : length area ≡ area_bytes
-      sound_long = area_long r.held area (sound ∙ u)
+  module _ (u : area_sound r.held area ≡ true) where
+    pub area_whole : length area ≡ area_bytes
+    area_whole = area_long r.held area u
 
-      pub close_none : (n : ℕ) (l : Bool) → l ≡ live_at r.device.connections n → l ≡ false → refused no_connection r area [] ≡ close_call r area n
-      unfolding close_call
-      close_none n l q v = rw (← tested, t, sound, u, ← q, v)
+    pub part_within : (n : ℕ) → n < 8 → part_at n + part_bytes ≤ length area
+    part_within n h = omega (arith, area_whole)
 
-      pub close_done : (n : ℕ) (l : Bool) → l ≡ live_at r.device.connections n → l ≡ true → (z : Record) (next : List ℕ) → z ≡ closed_state r n
-          → next ≡ part_cleared area n → outcome (0 ∷ []) z next [] ≡ close_call r area n
-      unfolding close_call
-      close_done n l q v z next x y = rw (← tested, t, sound, u, ← q, v, x, y)
+    pub close_none : (n : ℕ) → live_at r.device.connections n ≡ false → (e : Refusal) → e ≡ refusals.NoConnection
+        → outcome (refusal_numbers e) r area [] ≡ close_call r area n
+    unfolding close_call
+    close_none n v e q = rw (q, t, u, v)
 
-      pub tick_passed : (reading : ℕ) (o : Outcome) → o ≡ ticked_by (tick_of r.device reading).answer r (tick_of r.device reading) area
-          → o ≡ tick_call r area reading
-      unfolding tick_call
-      tick_passed reading o q = rw (← tested, t, sound, u) q
+    pub close_done : (n : ℕ) → live_at r.device.connections n ≡ true → (z : Record) (next : List ℕ) → z ≡ closed_state r n
+        → next ≡ part_cleared area n → outcome (0 ∷ []) z next [] ≡ close_call r area n
+    unfolding close_call
+    close_done n v z next x y = rw (t, u, v, x, y)
+
+    pub tick_passed : (reading : ℕ) (o : Outcome) → o ≡ ticked_by (tick_of r.device reading).answer r (tick_of r.device reading) area
+        → o ≡ tick_call r area reading
+    unfolding tick_call
+    tick_passed reading o w = w ∙ rw (t, u)

@@ -1,5 +1,6 @@
 pub mod State
 pub mod Outcome
+pub mod Check
 pub mod Calls
 pub mod Deliver
 pub mod Take

@@ -1,13 +1,11 @@
 -- R68. Results that a call's promise allows are equal.
-use Rattle.std.specs.Prelude.{ℕ, ◌≡◌, Bool, List}
-use Rattle.answers.specs.declared.Clearing.{Clearing}
+use Rattle.std.specs.Prelude.{ℕ, ◌≡◌, Bool, List, Result}
+use Rattle.numbers.specs.declared.Refusal.{Refusal}
+use Rattle.answers.specs.declared.Delivery.{Delivery}
+use Rattle.answers.specs.declared.Taking.{Taking}
 use Rattle.endpoint.specs.Promises.{ClearGives, FreshGives, ObeysGives, OpenGives, CloseGives, TickGives, DeliverGives, TakeGives}
 use Rattle.endpoint.specs.declared.Record.{Record}
-use Rattle.endpoint.specs.declared.Opened.{Opened}
-use Rattle.endpoint.specs.declared.Closed.{Closed}
-use Rattle.endpoint.specs.declared.Ticked.{Ticked}
-use Rattle.endpoint.specs.declared.Delivered.{Delivered}
-use Rattle.endpoint.specs.declared.Taken.{Taken}
+use Rattle.endpoint.specs.declared.Handed.{Handed}
 
 -- R68. A promise of a result allows one.
 abbrev pub AllowsOne : (A : Type 0) → (A → Type 0) → Type 0
@@ -23,12 +21,12 @@ AllowsOneLentTwo A Gives = (r s : A) (x y v w : List ℕ) → Gives r x v → Gi
 
 -- Theorem. Each call's promise, as its contract states it, allows one result.
 pub record ResultsTell : Type 0 where
-  pub cleared : (area : List ℕ) → AllowsOneLent Clearing (ClearGives area)
+  pub cleared : (area : List ℕ) → AllowsOneLent (Result (Unit {0}) Refusal) (ClearGives area)
   pub fresh : (reading : ℕ) → AllowsOne Record (FreshGives reading)
   pub obeys : (state : Record) → AllowsOne Bool (ObeysGives state)
-  pub opened : (state : Record) → AllowsOne Opened (OpenGives state)
-  pub closed : (state : Record) (area : List ℕ) (n : ℕ) → AllowsOneLent Closed (CloseGives state area n)
-  pub ticked : (state : Record) (area : List ℕ) (reading : ℕ) → AllowsOneLent Ticked (TickGives state area reading)
+  pub opened : (state : Record) → AllowsOne (Handed ℕ) (OpenGives state)
+  pub closed : (state : Record) (area : List ℕ) (n : ℕ) → AllowsOneLent (Handed (Unit {0})) (CloseGives state area n)
+  pub ticked : (state : Record) (area : List ℕ) (reading : ℕ) → AllowsOneLent (Handed ℕ) (TickGives state area reading)
   pub delivered : (state : Record) (area : List ℕ) (n : ℕ) (piece output : List ℕ)
-      → AllowsOneLentTwo Delivered (DeliverGives state area n piece output)
-  pub taken : (state : Record) (output : List ℕ) → AllowsOneLent Taken (TakeGives state output)
+      → AllowsOneLentTwo (Handed Delivery) (DeliverGives state area n piece output)
+  pub taken : (state : Record) (output : List ℕ) → AllowsOneLent (Handed Taking) (TakeGives state output)

@@ -1,34 +1,32 @@
 // Taking: the refusals in their order, and then the message that waits.
 ghost use Rattle.std.specs.Prelude.{◌≡◌, []};
-ghost use Rattle.answers.specs.Numbers.{taking_numbers};
+ghost use Rattle.answers.specs.Numbers.{answer_numbers, taking_numbers};
 ghost use Rattle.endpoint.specs.Outcome.{outcome};
 ghost use Rattle.endpoint.specs.Take.{take_call};
 ghost use Rattle.endpoint.specs.Promises.{TakeGives};
 
-use crate::{Record, Taken};
+use crate::{Handed, Record, check_room};
 use answers::Taking;
+use numbers::Refusal;
 
 impl Record {
-    #[tactic(auto, using(crate::proofs::Takes::take_broken, crate::proofs::Takes::take_short, crate::proofs::Takes::take_done, crate::proofs::Takes::device_rules))]
-    pub fn try_take(&mut self, output: &mut [u8]) -> Taking
-        ensures { outcome (taking_numbers result) self.new [] output.new ≡ take_call self.old output.old }
+    /// One message that waits is taken, and stands at the output's front: its connection and its length in bytes. Refused by
+    /// `BadRecord` and `NoRoom` (below 4,096 bytes), in this order.
+    #[tactic(auto, using(crate::proofs::Takes::take_broken, crate::proofs::Takes::take_short, crate::proofs::Takes::take_done, crate::proofs::States::device_obeys_lem))]
+    pub fn try_take(&mut self, output: &mut [u8]) -> Result<Taking, Refusal>
+        ensures { outcome (answer_numbers taking_numbers result) self.new [] output.new ≡ take_call self.old output.old }
     {
-        let sound = self.keeps_rules();
-        if !sound {
-            return Taking::BadRecord;
-        }
-        if output.len() < crate::OUTPUT {
-            return Taking::NoRoom;
-        }
-        taking::take(&mut self.device, output)
+        self.check()?;
+        check_room(output)?;
+        Ok(taking::take(&mut self.device, output))
     }
 
-    // One message, and its connection.
-    pub fn take(mut self, output: &mut [u8]) -> Taken
+    /// `try_take` of a record that is passed and handed back.
+    pub fn take(mut self, output: &mut [u8]) -> Handed<Taking>
         ensures { TakeGives self output.old result output.new }
     {
         let answer = self.try_take(output);
-        Taken {
+        Handed {
             state: self,
             answer,
         }

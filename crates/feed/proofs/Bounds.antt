@@ -120,5 +120,5 @@ deliver_bounds r area n piece out c8 h8 =
     go true ea true eb true el true et = refusal_bound 4 piece out
     go true ea true eb true el false et =
         by_decision r.device area n (held_at r n)
-        (deliver_lies r true ea area n piece out refl area refl true eb refl true el refl c8 h8) piece out
+        (deliver_lies r area n piece out (sym ea) (sym eb) (sym el) c8 h8) piece out
         (ltb-false (length out) least_output et) (decide (undecided_of area n (held_at r n) ++ piece)) refl

@@ -10,7 +10,7 @@ use lib.Seq.{drop-drop}
 use borrow.Author.Tests.{eq-eqb, ne_eqb, ltb-true, ltb-false}
 use borrow.Rule.Slice.PartMut.{put_mid}
 use Rattle.laws.proofs.Conds.{and_left, and_right}
-use Rattle.answers.specs.Numbers.{delivery_numbers, numbers_of}
+use Rattle.answers.specs.Numbers.{answer_numbers, delivery_numbers, numbers_of}
 use Rattle.answers.specs.declared.Numbers.{Numbers}
 use Rattle.endpoint.specs.Outcome.{Outcome, outcome}
 use Rattle.endpoint.specs.Deliver.{deliver_call}
@@ -22,7 +22,7 @@ use Rattle.feed.proofs.Bounds.{deliver_bounds}
 
 -- how many offers more there may be
 unfoldable pub left_to : Fed → ℕ → ℕ
-left_to fed whole = cond (is_message (delivery_numbers fed.answer)) (suc (whole - fed.taken)) 0
+left_to fed whole = cond (is_message (answer_numbers delivery_numbers fed.answer)) (suc (whole - fed.taken)) 0
 
 -- the output's rest, lent and given back, stands behind the front
 pub put_back : (put : ℕ) (out part : List ℕ) → put_mid put (length out - put) out part ≡ take put out ++ part
@@ -60,11 +60,11 @@ module _ (r : Record) (area : List ℕ) (n : ℕ) (piece out : List ℕ) (taken 
 
     -- fed is what the delivery gave, with the totals
     pub offers : (fed : Fed) (left part written : List ℕ)
-        → outcome (delivery_numbers fed.answer) fed.state left part ≡ deliver_call r area n p q
-        → written ≡ take put out ++ part → fed.taken ≡ taken + bytes_taken (delivery_numbers fed.answer)
-        → fed.put ≡ put + reply_length (delivery_numbers fed.answer) → Offers r area n piece out taken put fed left written
+        → outcome (answer_numbers delivery_numbers fed.answer) fed.state left part ≡ deliver_call r area n p q
+        → written ≡ take put out ++ part → fed.taken ≡ taken + bytes_taken (answer_numbers delivery_numbers fed.answer)
+        → fed.put ≡ put + reply_length (answer_numbers delivery_numbers fed.answer) → Offers r area n piece out taken put fed left written
     offers fed left part written e w t u =
-        let o = outcome (delivery_numbers fed.answer) fed.state left part in
+        let o = outcome (answer_numbers delivery_numbers fed.answer) fed.state left part in
         record {
           is = λ answer messages. unfold offer in (rw (← pe, ← qe, ← e, w, t, u));
           within = rw t (offer_within o e);
@@ -76,7 +76,7 @@ module _ (r : Record) (area : List ℕ) (n : ℕ) (piece out : List ℕ) (taken 
 pub record Going (n : ℕ) (piece : List ℕ) (once : Fed) (lent first : List ℕ) (fed : Fed) (area out : List ℕ) : Type 0 where
   pub most : ℕ
   pub told : List (List ℕ)
-  pub enough : is_message (delivery_numbers fed.answer) ≡ true → length piece ≤ fed.taken + most
+  pub enough : is_message (answer_numbers delivery_numbers fed.answer) ≡ true → length piece ≤ fed.taken + most
   pub is : (ms : List (List ℕ))
       → feed_more (length piece) n (drop once.taken piece) (fed_so_far once lent first ms)
       ≡ feed_more most n (drop fed.taken piece) (fed_so_far fed area out (ms ++ told))
@@ -102,13 +102,13 @@ going_first r lent n piece first fed area out o w =
 module _ (n : ℕ) (piece : List ℕ) (once : Fed) (lent first : List ℕ) (fed : Fed) (area out : List ℕ) (go : Going n piece once lent first fed area out)
   where
     module _ (test : goes_on fed (length piece) ≡ true) where
-      is_message_lem : is_message (delivery_numbers fed.answer) ≡ true
+      is_message_lem : is_message (answer_numbers delivery_numbers fed.answer) ≡ true
       unfolding goes_on
-      is_message_lem = and_left (is_message (delivery_numbers fed.answer)) (ltb fed.taken (length piece)) test
+      is_message_lem = and_left (is_message (answer_numbers delivery_numbers fed.answer)) (ltb fed.taken (length piece)) test
 
       less : fed.taken < length piece
       unfolding goes_on
-      less = ltb-true fed.taken (length piece) (and_right (is_message (delivery_numbers fed.answer)) (ltb fed.taken (length piece)) test)
+      less = ltb-true fed.taken (length piece) (and_right (is_message (answer_numbers delivery_numbers fed.answer)) (ltb fed.taken (length piece)) test)
 
       -- what is left is offered
       more : (k : ℕ) (ms : List (List ℕ))
@@ -125,13 +125,13 @@ module _ (n : ℕ) (piece : List ℕ) (once : Fed) (lent first : List ℕ) (fed 
       module _ (next : Fed) (area' out' : List ℕ) (o : Offers fed.state area n piece out fed.taken fed.put next area' out') where
         came : (k : ℕ) (ms : List (List ℕ))
             → feed_more (suc k) n (drop fed.taken piece) (fed_so_far fed area out ms)
-            ≡ feed_more k n (drop next.taken piece) (fed_so_far next area' out' (ms ++ message_told (delivery_numbers next.answer)))
+            ≡ feed_more k n (drop next.taken piece) (fed_so_far next area' out' (ms ++ message_told (answer_numbers delivery_numbers next.answer)))
         unfolding offer
         came k ms =
             let g = offer n (fed_so_far fed area out ms) (drop fed.taken piece) in
-            let q : fed_so_far next area' out' g.messages ≡ g = o.is (delivery_numbers fed.answer) ms in
+            let q : fed_so_far next area' out' g.messages ≡ g = o.is (answer_numbers delivery_numbers fed.answer) ms in
             let t : next.taken ≡ fed.taken + bytes_taken g.answer = ap (λ (f : Feeding). f.taken) q in
-            let a : delivery_numbers next.answer ≡ g.answer = ap (λ (f : Feeding). f.answer) q in
+            let a : answer_numbers delivery_numbers next.answer ≡ g.answer = ap (λ (f : Feeding). f.answer) q in
             more k ms
             ∙ sym
             (ap (λ (x : List ℕ). feed_more k n (drop next.taken piece) (fed_so_far next area' out' (ms ++ message_told x))) a
@@ -148,7 +148,7 @@ module _ (n : ℕ) (piece : List ℕ) (once : Fed) (lent first : List ℕ) (fed 
             again (suc k) h e =
                 record {
                   most = k;
-                  told = go.told ++ message_told (delivery_numbers next.answer);
+                  told = go.told ++ message_told (answer_numbers delivery_numbers next.answer);
                   enough = λ m. omega (arith, o.gains m);
                   is = λ ms. e ms ∙ came k (ms ++ go.told) ∙ rw append_assoc;
                   within = o.within;
@@ -160,9 +160,9 @@ module _ (n : ℕ) (piece : List ℕ) (once : Fed) (lent first : List ℕ) (fed 
         -- one more offer takes more of the piece, or is the last
         pub less_left : left_to next (length piece) < left_to fed (length piece)
         unfolding left_to
-        less_left = rw is_message_lem (by (is_message (delivery_numbers next.answer)) refl)
+        less_left = rw is_message_lem (by (is_message (answer_numbers delivery_numbers next.answer)) refl)
           where
-            by : (b : Bool) → is_message (delivery_numbers next.answer) ≡ b → cond {A = ℕ} b (suc (length piece - next.taken)) 0 < suc (length piece - fed.taken)
+            by : (b : Bool) → is_message (answer_numbers delivery_numbers next.answer) ≡ b → cond {A = ℕ} b (suc (length piece - next.taken)) 0 < suc (length piece - fed.taken)
             by true e = omega (arith, less, o.gains e)
             by false e = omega arith
 
@@ -171,7 +171,7 @@ module _ (n : ℕ) (piece : List ℕ) (once : Fed) (lent first : List ℕ) (fed 
         → feed_more k n (drop fed.taken piece) (fed_so_far fed area out ms) ≡ fed_so_far fed area out ms
     unfolding feed_more goes_on
     stops ms test zero = refl
-    stops ms test (suc k) = by (is_message (delivery_numbers fed.answer)) test
+    stops ms test (suc k) = by (is_message (answer_numbers delivery_numbers fed.answer)) test
       where
         by : (m : Bool) → (m && ltb fed.taken (length piece)) ≡ false
             → cond m

@@ -1,7 +1,7 @@
 -- R28, R31, R81. The host's loop: a piece is offered again until all of it is taken, the connection is closed, or a delivery is refused.
 use Rattle.std.specs.Prelude.{ℕ, zero, suc, ◌+◌, ◌≡◌, Bool, cond, List, [], ◌∷◌, ◌++◌, length, get_or, take, drop, eqb, leb}
 use Rattle.numbers.specs.Kind.{kind_message}
-use Rattle.answers.specs.Numbers.{delivery_numbers}
+use Rattle.answers.specs.Numbers.{answer_numbers, delivery_numbers}
 use Rattle.endpoint.specs.Deliver.{deliver_call}
 use Rattle.endpoint.specs.declared.Record.{Record}
 use Rattle.feed.specs.declared.Fed.{Fed}
@@ -68,7 +68,7 @@ feed_of r area n piece out = feed_piece n (unfed r area out) piece
 
 -- R28, R31. What the function that feeds a piece promises of its result, and of the area and the output as it leaves them.
 pub record Feeds (r : Record) (lent : List ℕ) (n : ℕ) (piece out : List ℕ) (fed : Fed) (left written : List ℕ) : Type 0 where
-  pub answer : delivery_numbers fed.answer ≡ (feed_of r lent n piece out).answer
+  pub answer : answer_numbers delivery_numbers fed.answer ≡ (feed_of r lent n piece out).answer
   pub state : fed.state ≡ (feed_of r lent n piece out).state
   pub area : left ≡ (feed_of r lent n piece out).area
   pub output : written ≡ (feed_of r lent n piece out).output

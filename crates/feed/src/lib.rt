@@ -1,40 +1,45 @@
-// The host's loop: a piece is offered again until all of it is taken, the connection is closed, or a delivery is refused.
+//! The host's loop: a piece is offered again until all of it is taken, the connection is closed, or a delivery is refused.
 #![tactic(auto)]
 
 ghost use Rattle.std.specs.Prelude.{◌≡◌, ◌≤◌, length};
-ghost use Rattle.answers.specs.Numbers.{delivery_numbers};
+ghost use Rattle.answers.specs.Numbers.{answer_numbers, delivery_numbers};
 ghost use Rattle.feed.specs.Feed.{is_message, reply_length, Feeds};
 ghost use Rattle.feed.specs.Scaffold.{goes_on, Offers};
 ghost use Rattle.feed.specs.Tell.{FeedingTells};
 
-use answers::Delivery;
+use answers::{Delivery, numbers_told};
 use endpoint::Record;
+use numbers::Refusal;
 
+// The kind of a delivery that carried a message out.
+const MESSAGE: u8 = 2;
+
+/// What feeding a piece comes to.
 #[derive(Clone, Copy)]
 pub struct Fed {
     pub state: Record,
-    // of the last delivery
-    pub answer: Delivery,
-    // how many bytes of the piece
+    /// Of the last delivery.
+    pub answer: Result<Delivery, Refusal>,
+    /// How many bytes of the piece were taken.
     pub taken: usize,
-    // how many bytes of replies stand at the output's front
+    /// How many bytes of replies stand at the output's front.
     pub put: usize,
 }
 
 #[tactic(auto, using(crate::proofs::Feedings::told_kind))]
-fn is_message(answer: Delivery) -> bool
-    ensures { result ≡ is_message (delivery_numbers answer) }
+fn is_message(answer: Result<Delivery, Refusal>) -> bool
+    ensures { result ≡ is_message (answer_numbers delivery_numbers answer) }
 {
-    let told = answer.numbers();
-    told.first == numbers::KIND_MESSAGE
+    let told = numbers_told(answer);
+    told.first == MESSAGE
 }
 
 #[tactic(auto, using(crate::proofs::Feedings::told_length, crate::proofs::Feedings::told_none))]
-fn reply_length(answer: Delivery) -> usize
-    ensures { result ≡ reply_length (delivery_numbers answer) }
+fn reply_length(answer: Result<Delivery, Refusal>) -> usize
+    ensures { result ≡ reply_length (answer_numbers delivery_numbers answer) }
 {
     if is_message(answer) {
-        let told = answer.numbers();
+        let told = numbers_told(answer);
         return told.third;
     }
     0
@@ -57,7 +62,7 @@ fn offer(
 {
     let delivered = state.deliver(area, n, &piece[taken..], &mut output[put..]);
     let answer = delivered.answer;
-    let told = answer.numbers();
+    let told = numbers_told(answer);
     let length = reply_length(answer);
     let state = delivered.state;
     Fed {
@@ -77,7 +82,8 @@ fn goes_on(fed: Fed, whole: usize) -> bool
     is_message(answer) & (fed.taken < whole)
 }
 
-// R28. A piece of connection n's bytes, offered again behind each sound message; the replies stand one behind another.
+/// A piece of connection `n`'s bytes is delivered, and what is left of it again behind each sound message; the replies stand one
+/// behind another at the output's front.
 #[tactic(auto, using(crate::proofs::Feedings::left_to, crate::proofs::Feedings::going_first, crate::proofs::Feedings::going_again, crate::proofs::Feedings::less_left, crate::proofs::Feedings::going_all))]
 pub fn feed(state: Record, area: &mut [u8], n: u8, piece: &[u8], output: &mut [u8]) -> Fed
     ensures { Feeds state area.old n piece.now output.old result

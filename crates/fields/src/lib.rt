@@ -1,4 +1,4 @@
-// An entry's fields and its parameters, and the heartbeat that a keep-alive carries; in the definitions, where an entry stands.
+//! An entry's fields and its parameters, and the heartbeat that a keep-alive carries; in the definitions, where an entry stands.
 #![tactic(auto)]
 
 ghost use Rattle.std.specs.Prelude.{◌≡◌, true, ◌+◌, ◌≤◌, length};
@@ -11,13 +11,15 @@ ghost use Rattle.fields.specs.Fields.{method_at, command_of, notification_of, re
 use frame::places;
 use heartbeat::{Heartbeat, Milliseconds, Seconds};
 
-#[derive(Clone, Copy)]
+/// The method of a class, by its level and its index there; an event is told by the same two.
+#[derive(Clone, Copy, Debug, PartialEq, Eq)]
 pub struct Method {
     pub level: u16,
     pub index: u16,
 }
 
-#[derive(Clone, Copy)]
+/// A command's fields.
+#[derive(Clone, Copy, Debug, PartialEq, Eq)]
 pub struct CommandFields {
     pub handle: u32,
     pub target: u32,
@@ -25,7 +27,8 @@ pub struct CommandFields {
     pub count: u8,
 }
 
-#[derive(Clone, Copy)]
+/// A notification's fields but its context, of which it has the count.
+#[derive(Clone, Copy, Debug, PartialEq, Eq)]
 pub struct NotificationFields {
     pub target: u32,
     pub method: Method,
@@ -35,21 +38,21 @@ pub struct NotificationFields {
     pub event: Method,
 }
 
-#[derive(Clone, Copy)]
+/// A response's fields.
+#[derive(Clone, Copy, Debug, PartialEq, Eq)]
 pub struct ResponseFields {
     pub handle: u32,
     pub status: u8,
     pub count: u8,
 }
 
-// The entry's parameters, as a part of it.
+/// The entry's parameters, as a part of it.
 #[tactic(auto, using(frame::proofs::Entries::offset_low, laws::proofs::Parts::rest), unfolding(crate::specs::Place::parameters_of))]
 pub fn parameters<'a>(kind: u8, e: &'a [u8]) -> &'a [u8]
     requires { parameter_offset kind e.now ≤ length e.now }
     ensures { result.now ≡ parameters_of kind e.now }
 {
-    let offset = frame::parameter_offset(kind, e);
-    &e[offset..]
+    &e[frame::parameter_offset(kind, e)..]
 }
 
 #[tactic(auto, unfolding(crate::specs::Fields::method_at))]
@@ -63,6 +66,7 @@ fn method_at(e: &[u8], at: usize) -> Method
     }
 }
 
+/// The fields of the command that starts `e`.
 #[tactic(auto, unfolding(crate::specs::Fields::command_of))]
 pub fn command_of(e: &[u8]) -> CommandFields
     requires { 17 ≤ length e.now }
@@ -76,6 +80,7 @@ pub fn command_of(e: &[u8]) -> CommandFields
     }
 }
 
+/// The fields of the notification that starts `e`; its emitter and event stand behind its context.
 #[tactic(auto, using(frame::proofs::Entries::offset_notification), unfolding(crate::specs::Fields::notification_of, frame::specs::Entry::context_count))]
 pub fn notification_of(e: &[u8]) -> NotificationFields
     requires { parameter_offset notification e.now ≤ length e.now }
@@ -93,6 +98,7 @@ pub fn notification_of(e: &[u8]) -> NotificationFields
     }
 }
 
+/// The fields of the response that starts `e`.
 #[tactic(auto, unfolding(crate::specs::Fields::response_of))]
 pub fn response_of(e: &[u8]) -> ResponseFields
     requires { 10 ≤ length e.now }
@@ -105,14 +111,15 @@ pub fn response_of(e: &[u8]) -> ResponseFields
     }
 }
 
-// The heartbeat of a keep-alive's data.
+/// The heartbeat of a keep-alive's data.
 #[tactic(auto, using(crate::proofs::Places::keep_long), unfolding(crate::specs::Fields::heartbeat_of))]
 pub fn heartbeat_of(body: &[u8]) -> Heartbeat
     requires { keep_alive_fill body.now ≡ true }
     ensures { result ≡ heartbeat_of body.now }
 {
     if body.len() == frame::SECONDS_BYTES {
-        return Heartbeat::InSeconds(Seconds(octets::be16(body, 0)));
+        Heartbeat::InSeconds(Seconds(octets::be16(body, 0)))
+    } else {
+        Heartbeat::InMilliseconds(Milliseconds(octets::be32(body, 0)))
     }
-    Heartbeat::InMilliseconds(Milliseconds(octets::be32(body, 0)))
 }

@@ -5,13 +5,16 @@ use mathlib.Core.List.{List}
 use mathlib.Core.Bool.{Bool, cond, true, false, false≢true, ◌||◌}
 use native.Mathlib.Omega.{arith}
 use lib.Dec.{ltb, eqb}
-use lib.ListN.{length, take, drop, length-drop}
+use lib.ListN.{length, take, drop, get_or, length-drop}
 use borrow.Author.Tests.{eq-eqb, ne_eqb, lt-ltb, le-ltb, ltb-false, eqb-true, eqb-false}
 use Rattle.laws.proofs.Conds.{cond_left, cond_right}
 use Rattle.octets.specs.Numbers.{be16_at, be32_at}
 use Rattle.octets.proofs.Digits.{be16_take}
 use Rattle.frame.specs.Limits.{notification, response, least_command, least_notification, least_response, greatest_context}
 use Rattle.frame.specs.Places.{context_count_place}
+use Rattle.std.specs.Prelude.{Some, None}
+use Rattle.std.specs.Bool.{then_some}
+use Rattle.frame.specs.Scaffold.{nonzero}
 use Rattle.frame.specs.Entry.{least_entry, context_count, parameter_offset, is_context_bad, count_place, least_count, count_fits, entry_fits, fits_at, entry_size, entries_fill, well_formed}
 
 -- the parameter count stands before the parameters, behind the size
@@ -115,6 +118,18 @@ entry_at_lem k t nz =
       fits = q.0;
     }
 
+-- the code's answer: the size, where what is said fits
+pub entry_counted : (k n : ℕ) (t : List ℕ) → n ≡ least_entry k → n ≤ length t → is_context_bad k t ≡ false
+    → then_some (fits_at k t) (be32_at t 0) ≡ nonzero (entry_size k t)
+unfolding entry_size nonzero
+entry_counted k n t q l b = simp (le-ltb (length t) (least_entry k) (omega arith), b) (go (fits_at k t) refl)
+  where
+    go : (f : Bool) → fits_at k t ≡ f → then_some f (be32_at t 0) ≡ cond (eqb (cond f (be32_at t 0) 0) 0) None (Some (cond f (be32_at t 0) 0))
+    go true e =
+        let w = fits_within k (parameter_offset k t) (be32_at t 0) _ _ e in
+        rw (ne_eqb (be32_at t 0) 0 (λ z. omega (arith, w.0, offset_low k t, (least_holds k).0)))
+    go false e = refl
+
 -- and what makes one
 pub entry_make : (k : ℕ) (t : List ℕ) → parameter_offset k t ≤ length t → context_count k t ≤ greatest_context → fits_at k t ≡ true → entry_size k t ≡ be32_at t 0
 unfolding entry_size
@@ -130,6 +145,21 @@ entries_first n k t e =
 
 pub size_within : (k : ℕ) (t : List ℕ) → (entry_size k t ≡ 0 → ⊥) → entry_size k t ≤ length t
 size_within k t nz = let w = entry_at_lem k t nz in omega (arith, w.size, w.high)
+
+-- as the code finds its parts
+pub entry_told : (k l o z a : ℕ) (p t : List ℕ) (f : Bool) → l ≡ least_entry k → l ≤ length t → is_context_bad k t ≡ false
+    → o ≡ parameter_offset k t → z ≡ be32_at t 0 → a ≡ count_place k → p ≡ drop o t → f ≡ entry_fits k o z (get_or t a 0) p
+    → then_some f z ≡ nonzero (entry_size k t)
+entry_told k l o z a p t f el h b eo ez ea ep ef = rw (ef, ep, eo, ez, ea) (entry_counted k l t el h b)
+
+-- and it reaches no further than the bytes
+pub counted_within : (k m : ℕ) (t : List ℕ) → Some m ≡ nonzero (entry_size k t) → m ≤ length t
+unfolding nonzero
+counted_within k m t e = go (eqb (entry_size k t) 0) refl e
+  where
+    go : (b : Bool) → eqb (entry_size k t) 0 ≡ b → Some m ≡ cond b None (Some (entry_size k t)) → m ≤ length t
+    go true q z = absurd (let y : ◌≡◌ {A = ℕ} 0 1 = cc in omega arith)
+    go false q z = let y : m ≡ entry_size k t = cc in omega (arith, size_within k t (eqb-false (entry_size k t) 0 q))
 
 -- exactly one entry: its size is its length
 pub one_size : (k : ℕ) (e : List ℕ) → entries_fill 1 k e ≡ true → entry_size k e ≡ length e

@@ -8,7 +8,7 @@ use lib.ListN.{length, take, drop}
 use lib.Seq.{get_or-take, length-take-le}
 use Rattle.octets.specs.Numbers.{be16_at, be32_at}
 use Rattle.laws.proofs.Conds.{cond_left}
-use Rattle.numbers.specs.Fault.{fault_data}
+use Rattle.numbers.specs.declared.Fault.TheVariants as fault
 use Rattle.frame.specs.Limits.{header_end}
 use Rattle.frame.specs.Header.{pdu_size, pdu_type, message_count, message_length}
 use Rattle.frame.specs.Decide.{data_sound, decide_data, decide, settled}
@@ -35,13 +35,13 @@ unfolding settled decide_data
 sound_way s n d (none e) q = absurd (true≢false (sym (ap settled q)))
 sound_way s n d (start p x) q = absurd (let z : ◌≡◌ {A = ℕ} 0 1 = cc in omega arith)
 sound_way s n d (few p e h) q = absurd (true≢false (sym (ap settled q)))
-sound_way s n d (header e h f) q = absurd (let z : ◌≡◌ {A = ℕ} 0 1 = cc in omega arith)
+sound_way s n d (header y e h f) q = absurd (let z : ◌≡◌ {A = ℕ} 0 1 = cc in omega arith)
 sound_way s n d (part e h f m) q = absurd (true≢false (sym (ap settled q)))
 sound_way s n d (whole e h f m) q =
     let k = message_length s in
     let w = take k s in
     let low : header_end ≤ k = omega (arith, (sound_header s f).low) in
-    let p = cond_left (data_sound (pdu_type w) (message_count w) (drop header_end w)) (Sound (length w)) (Faulty fault_data (length w)) (Sound n) q (λ x. let z : ◌≡◌ {A = ℕ} 0 1 = cc in omega arith) in
+    let p = cond_left (data_sound (pdu_type w) (message_count w) (drop header_end w)) (Sound (length w)) (Faulty fault.Data (length w)) (Sound n) q (λ x. let z : ◌≡◌ {A = ℕ} 0 1 = cc in omega arith) in
     let g = p.1 in
     let l : length w ≡ n = cc in
     let i : n ≡ k = sym l ∙ length-take-le k s m in

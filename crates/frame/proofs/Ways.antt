@@ -10,7 +10,9 @@ use lib.Seq.{get_or-take, take-take, take-append-le, length-take-le}
 use borrow.Author.Tests.{eq-eqb, ne_eqb, lt-ltb, le-ltb, ltb-true, ltb-false, eqb-true, eqb-false}
 use Rattle.laws.proofs.Conds.{cond_right}
 use Rattle.octets.specs.Numbers.{be16_at, be32_at}
-use Rattle.numbers.specs.Fault.{fault_start, fault_data}
+use Rattle.std.specs.Prelude.{Option, Some, None}
+use Rattle.numbers.specs.declared.Fault.{Fault}
+use Rattle.numbers.specs.declared.Fault.TheVariants as fault
 use Rattle.frame.specs.Limits.{sync, header_end, greatest_size}
 use Rattle.frame.specs.Header.{pdu_size, pdu_type, message_count, message_length, header_fault}
 use Rattle.frame.specs.Decide.{data_sound, decide_data, decide_header, decide, taken, settled}
@@ -23,26 +25,22 @@ use Rattle.frame.proofs.Headers.{sound_header}
 -- each way to a decision, with the tests on it
 pub data Way (s : List ℕ) : Decision → Type 0 where
   none : length s ≡ 0 → Way s Undecided
-  start : 0 < length s → (get_or s 0 0 ≡ sync → ⊥) → Way s (Faulty fault_start 1)
+  start : 0 < length s → (get_or s 0 0 ≡ sync → ⊥) → Way s (Faulty fault.Start 1)
   few : 0 < length s → get_or s 0 0 ≡ sync → length s < header_end → Way s Undecided
-  header : get_or s 0 0 ≡ sync → header_end ≤ length s → (header_fault s ≡ 0 → ⊥) → Way s (Faulty (header_fault s) header_end)
-  part : get_or s 0 0 ≡ sync → header_end ≤ length s → header_fault s ≡ 0 → length s < message_length s → Way s Undecided
-  whole : get_or s 0 0 ≡ sync → header_end ≤ length s → header_fault s ≡ 0 → message_length s ≤ length s
+  header : (f : Fault) → get_or s 0 0 ≡ sync → header_end ≤ length s → header_fault s ≡ Some f → Way s (Faulty f header_end)
+  part : get_or s 0 0 ≡ sync → header_end ≤ length s → header_fault s ≡ None → length s < message_length s → Way s Undecided
+  whole : get_or s 0 0 ≡ sync → header_end ≤ length s → header_fault s ≡ None → message_length s ≤ length s
       → Way s (decide_data (take (message_length s) s))
 
 pub way : (s : List ℕ) → Way s (decide s)
 unfolding decide decide_header
 way s =
-    go (eqb (length s) 0) refl (eqb (get_or s 0 0) sync) refl (ltb (length s) header_end) refl (eqb (header_fault s) 0) refl
+    go (eqb (length s) 0) refl (eqb (get_or s 0 0) sync) refl (ltb (length s) header_end) refl (header_fault s) refl
     (ltb (length s) (message_length s)) refl
   where
     go : (a : Bool) → eqb (length s) 0 ≡ a → (b : Bool) → eqb (get_or s 0 0) sync ≡ b → (h : Bool) → ltb (length s) header_end ≡ h
-        → (f : Bool) → eqb (header_fault s) 0 ≡ f → (m : Bool) → ltb (length s) (message_length s) ≡ m
-        → Way s (cond a Undecided
-        (cond b
-        (cond h Undecided
-        (cond f (cond m Undecided (decide_data (take (message_length s) s))) (Faulty (header_fault s) header_end)))
-        (Faulty fault_start 1)))
+        → (f : Option Fault) → header_fault s ≡ f → (m : Bool) → ltb (length s) (message_length s) ≡ m
+        → Way s (cond a Undecided (cond b (cond h Undecided (decide_header f s)) (Faulty fault.Start 1)))
     go true ea b eb h eh f ef m em = none (eqb-true _ _ ea)
     go false ea false eb h eh f ef m em =
         let nz = eqb-false (length s) 0 ea in
@@ -50,9 +48,9 @@ way s =
     go false ea true eb true eh f ef m em =
         let nz = eqb-false (length s) 0 ea in
         few (omega arith) (eqb-true _ _ eb) (ltb-true _ _ eh)
-    go false ea true eb false eh false ef m em = header (eqb-true _ _ eb) (ltb-false _ _ eh) (eqb-false _ _ ef)
-    go false ea true eb false eh true ef true em = part (eqb-true _ _ eb) (ltb-false _ _ eh) (eqb-true _ _ ef) (ltb-true _ _ em)
-    go false ea true eb false eh true ef false em = whole (eqb-true _ _ eb) (ltb-false _ _ eh) (eqb-true _ _ ef) (ltb-false _ _ em)
+    go false ea true eb false eh (Some f) ef m em = header f (eqb-true _ _ eb) (ltb-false _ _ eh) ef
+    go false ea true eb false eh None ef true em = rw em (part (eqb-true _ _ eb) (ltb-false _ _ eh) ef (ltb-true _ _ em))
+    go false ea true eb false eh None ef false em = rw em (whole (eqb-true _ _ eb) (ltb-false _ _ eh) ef (ltb-false _ _ em))
 
 -- a way leads to one decision
 pub way_back : (s : List ℕ) (d : Decision) → Way s d → decide s ≡ d
@@ -60,12 +58,12 @@ unfolding decide decide_header
 way_back s d (none e) = simp (eq-eqb (length s) 0 e)
 way_back s d (start p n) = simp (ne_eqb (length s) 0 (λ e. omega arith), ne_eqb (get_or s 0 0) sync n)
 way_back s d (few p e h) = simp (ne_eqb (length s) 0 (λ e. omega arith), eq-eqb (get_or s 0 0) sync e, lt-ltb (length s) header_end h)
-way_back s d (header e h f) =
-    simp (ne_eqb (length s) 0 (λ e. omega arith), eq-eqb (get_or s 0 0) sync e, le-ltb (length s) header_end h, ne_eqb (header_fault s) 0 f)
+way_back s d (header x e h f) =
+    simp (ne_eqb (length s) 0 (λ e. omega arith), eq-eqb (get_or s 0 0) sync e, le-ltb (length s) header_end h, f)
 way_back s d (part e h f m) =
-    simp (ne_eqb (length s) 0 (λ e. omega arith), eq-eqb (get_or s 0 0) sync e, le-ltb (length s) header_end h, eq-eqb (header_fault s) 0 f, lt-ltb (length s) (message_length s) m)
+    simp (ne_eqb (length s) 0 (λ e. omega arith), eq-eqb (get_or s 0 0) sync e, le-ltb (length s) header_end h, f, lt-ltb (length s) (message_length s) m)
 way_back s d (whole e h f m) =
-    simp (ne_eqb (length s) 0 (λ e. omega arith), eq-eqb (get_or s 0 0) sync e, le-ltb (length s) header_end h, eq-eqb (header_fault s) 0 f, le-ltb (length s) (message_length s) m)
+    simp (ne_eqb (length s) 0 (λ e. omega arith), eq-eqb (get_or s 0 0) sync e, le-ltb (length s) header_end h, f, le-ltb (length s) (message_length s) m)
 
 -- where a header stands it decides, or the message's last byte does
 pub headed : (s : List ℕ) → has_header s ≡ true → (header_end ≤ length s) × (decide s ≡ decide_header (header_fault s) s)
@@ -90,7 +88,7 @@ unfolding rest_by
 rest_none s i d (none e) u = refl
 rest_none s i d (start p n) u = refl
 rest_none s i d (few p e h) u = refl
-rest_none s i d (header e h f) u = refl
+rest_none s i d (header x e h f) u = refl
 rest_none s i d (part e h f m) u = refl
 rest_none s i d (whole e h f m) u = absurd (omega (arith, unheaded s u e))
 
@@ -102,7 +100,7 @@ pub data_settled : (m : List ℕ) → settled (decide_data m) ≡ true
 unfolding decide_data settled
 data_settled m = go (data_sound (pdu_type m) (message_count m) (drop header_end m))
   where
-    go : (b : Bool) → settled (cond b (Sound (length m)) (Faulty fault_data (length m))) ≡ true
+    go : (b : Bool) → settled (cond b (Sound (length m)) (Faulty fault.Data (length m))) ≡ true
     go true = refl
     go false = refl
 
@@ -110,7 +108,7 @@ pub data_taken : (m : List ℕ) → taken (decide_data m) ≡ length m
 unfolding decide_data taken
 data_taken m = go (data_sound (pdu_type m) (message_count m) (drop header_end m))
   where
-    go : (b : Bool) → taken (cond b (Sound (length m)) (Faulty fault_data (length m))) ≡ length m
+    go : (b : Bool) → taken (cond b (Sound (length m)) (Faulty fault.Data (length m))) ≡ length m
     go true = refl
     go false = refl
 
@@ -141,10 +139,10 @@ same_decision s t d (none e) u q = absurd (true≢false (sym u))
 same_decision s t d (start p n) u q =
     way_back t d (start (same_length 1 s t q (omega arith)) (λ e. n (sym (same_byte 1 s t q (omega arith) 0 (omega arith)) ∙ e)))
 same_decision s t d (few p e h) u q = absurd (true≢false (sym u))
-same_decision s t d (header e h f) u q =
+same_decision s t d (header x e h f) u q =
     let g = same_fault header_end s t q h (omega arith) in
     let b = same_byte header_end s t q h 0 (omega arith) in
-    way_back t (Faulty (header_fault t) header_end) (header (b ∙ e) (same_length header_end s t q h) (λ z. f (sym g ∙ z))) ∙ rw g
+    way_back t (Faulty x header_end) (header x (b ∙ e) (same_length header_end s t q h) (g ∙ f))
 same_decision s t d (part e h f m) u q = absurd (true≢false (sym u))
 same_decision s t d (whole e h f m) u q =
     let n = message_length s in
@@ -161,7 +159,7 @@ unfolding settled taken
 taken_some s d (none e) u = absurd (true≢false (sym u))
 taken_some s d (start p n) u = omega arith
 taken_some s d (few p e h) u = absurd (true≢false (sym u))
-taken_some s d (header e h f) u = omega arith
+taken_some s d (header x e h f) u = omega arith
 taken_some s d (part e h f m) u = absurd (true≢false (sym u))
 taken_some s d (whole e h f m) u = rw (data_taken (take (message_length s) s), length-take-le (message_length s) s m) (omega arith)
 
@@ -170,7 +168,7 @@ unfolding taken
 taken_within s d (none e) = omega arith
 taken_within s d (start p n) = omega arith
 taken_within s d (few p e h) = omega arith
-taken_within s d (header e h f) = omega arith
+taken_within s d (header x e h f) = omega arith
 taken_within s d (part e h f m) = omega arith
 taken_within s d (whole e h f m) = rw (data_taken (take (message_length s) s), length-take-le (message_length s) s m) m
 
@@ -179,7 +177,7 @@ unfolding settled
 undecided_short s d (none e) u = omega arith
 undecided_short s d (start p n) u = absurd (true≢false (ap settled u))
 undecided_short s d (few p e h) u = omega arith
-undecided_short s d (header e h f) u = absurd (true≢false (ap settled u))
+undecided_short s d (header x e h f) u = absurd (true≢false (ap settled u))
 undecided_short s d (part e h f m) u = omega (arith, (sound_header s f).high)
 undecided_short s d (whole e h f m) u = absurd (true≢false (sym (data_settled (take (message_length s) s)) ∙ ap settled u))
 

@@ -1,6 +1,7 @@
 -- R13, R16, R18. The data of a message, and its deciding byte.
-use Rattle.std.specs.Prelude.{ℕ, List, Bool, cond, true, false, length, get_or, take, drop, ltb, eqb}
-use Rattle.numbers.specs.Fault.{fault_start, fault_data}
+use Rattle.std.specs.Prelude.{ℕ, List, Option, Some, None, Bool, cond, true, false, length, get_or, take, drop, ltb, eqb}
+use Rattle.numbers.specs.declared.Fault.{Fault}
+use Rattle.numbers.specs.declared.Fault.TheVariants as fault
 use Rattle.frame.specs.Limits.{sync, header_end, keep_alive, seconds_bytes, milliseconds_bytes}
 use Rattle.frame.specs.Header.{pdu_type, message_count, message_length, header_fault}
 use Rattle.frame.specs.Entry.{entries_fill}
@@ -18,14 +19,12 @@ data_sound kind count t = cond (eqb kind keep_alive) (keep_alive_fill t) (entrie
 -- R16. The last byte decides: a sound message, or fault 6; m is the whole message.
 unfoldable pub decide_data : List ℕ → Decision
 decide_data m =
-    cond (data_sound (pdu_type m) (message_count m) (drop header_end m)) (Sound (length m)) (Faulty fault_data (length m))
+    cond (data_sound (pdu_type m) (message_count m) (drop header_end m)) (Sound (length m)) (Faulty fault.Data (length m))
 
--- R16. The tenth byte decides where f, the header's fault, is not 0; else the last byte does.
-unfoldable pub decide_header : ℕ → List ℕ → Decision
-decide_header f s =
-    cond (eqb f 0)
-    (cond (ltb (length s) (message_length s)) Undecided (decide_data (take (message_length s) s)))
-    (Faulty f header_end)
+-- R16. The tenth byte decides where the header has a fault; else the last byte does.
+unfoldable pub decide_header : Option Fault → List ℕ → Decision
+decide_header None s = cond (ltb (length s) (message_length s)) Undecided (decide_data (take (message_length s) s))
+decide_header (Some f) s = Faulty f header_end
 
 -- R16. What the bytes at the front of s decide, and how many of them it takes.
 unfoldable pub decide : List ℕ → Decision
@@ -33,7 +32,7 @@ decide s =
     cond (eqb (length s) 0) Undecided
     (cond (eqb (get_or s 0 0) sync)
     (cond (ltb (length s) header_end) Undecided (decide_header (header_fault s) s))
-    (Faulty fault_start 1))
+    (Faulty fault.Start 1))
 
 -- R18. The bytes up to and including the deciding one; 0 while undecided.
 unfoldable pub taken : Decision → ℕ

@@ -1,7 +1,8 @@
 -- R7, R8, R17. The header's fields and their faults.
-use Rattle.std.specs.Prelude.{ℕ, ◌+◌, List, cond, get_or, ltb, eqb}
+use Rattle.std.specs.Prelude.{ℕ, ◌+◌, List, Option, Some, None, cond, get_or, ltb, eqb}
 use Rattle.octets.specs.Numbers.{be16_at, be32_at}
-use Rattle.numbers.specs.Fault.{fault_version, fault_size, fault_type, fault_count}
+use Rattle.numbers.specs.declared.Fault.{Fault}
+use Rattle.numbers.specs.declared.Fault.TheVariants as fault
 use Rattle.frame.specs.Places.{version_place, size_place, type_place, message_count_place}
 use Rattle.frame.specs.Limits.{version, least_size, greatest_size, keep_alive}
 
@@ -25,20 +26,20 @@ message_count s = be16_at s message_count_place
 abbrev pub message_length : List ℕ → ℕ
 message_length s = pdu_size s + 1
 
--- R17. Fault 5, or 0.
-unfoldable pub count_fault : ℕ → ℕ → ℕ
+-- R17. Fault 5, or none.
+unfoldable pub count_fault : ℕ → ℕ → Option Fault
 count_fault kind count =
-    cond (eqb count 0) fault_count (cond (eqb kind keep_alive) (cond (eqb count 1) 0 fault_count) 0)
+    cond (eqb count 0) (Some fault.Count) (cond (eqb kind keep_alive) (cond (eqb count 1) None (Some fault.Count)) None)
 
--- R17. The first of faults 2 to 5 that these fields have, or 0.
-unfoldable pub fields_fault : ℕ → ℕ → ℕ → ℕ → ℕ
+-- R17. The first of faults 2 to 5 that these fields have, or none.
+unfoldable pub fields_fault : ℕ → ℕ → ℕ → ℕ → Option Fault
 fields_fault protocol size kind count =
     cond (eqb protocol version)
-    (cond (ltb size least_size) fault_size
-    (cond (ltb greatest_size size) fault_size
-    (cond (ltb keep_alive kind) fault_type (count_fault kind count))))
-    fault_version
+    (cond (ltb size least_size) (Some fault.Size)
+    (cond (ltb greatest_size size) (Some fault.Size)
+    (cond (ltb keep_alive kind) (Some fault.Type) (count_fault kind count))))
+    (Some fault.Version)
 
--- R17. The header's fault, or 0.
-unfoldable pub header_fault : List ℕ → ℕ
+-- R17. The header's fault, or none.
+unfoldable pub header_fault : List ℕ → Option Fault
 header_fault s = fields_fault (protocol_version s) (pdu_size s) (pdu_type s) (message_count s)

@@ -1,7 +1,7 @@
-// The limits, the header, the deciding byte and the walk over a message's entries.
+//! The limits, the header, the deciding byte and the walk over a message's entries.
 #![tactic(auto)]
 
-ghost use Rattle.std.specs.Prelude.{◌≡◌, false, ◌+◌, ◌-◌, ◌^◌, ◌<◌, ◌≤◌, length};
+ghost use Rattle.std.specs.Prelude.{◌≡◌, false, cond, ◌+◌, ◌-◌, ◌^◌, ◌<◌, ◌≤◌, length, Some, None};
 ghost use Rattle.octets.specs.Numbers.{be32_at};
 ghost use Rattle.frame.specs.Header.{count_fault, fields_fault, header_fault};
 ghost use Rattle.frame.specs.Entry.{least_entry, context_count, parameter_offset, is_context_bad};
@@ -10,7 +10,11 @@ ghost use Rattle.frame.specs.Counts.{CountTells};
 ghost use Rattle.frame.specs.Contexts.{ContextTells};
 ghost use Rattle.frame.specs.Decide.{keep_alive_fill, data_sound, decide_data, decide_header, decide};
 ghost use Rattle.frame.specs.Deciding.{Deciding};
-ghost use Rattle.frame.specs.Scaffold.{entries_stand, rest_from, data_rest, has_header, Finds};
+ghost use Rattle.frame.specs.declared.Decision.TheVariants.{Sound, Faulty};
+ghost use Rattle.numbers.specs.declared.Fault.TheVariants as fault;
+ghost use Rattle.frame.specs.Scaffold.{nonzero, walked, rest_from, has_header, Finds};
+
+use numbers::Fault;
 
 pub mod places;
 
@@ -52,66 +56,59 @@ pub const MILLISECONDS_BYTES: usize = 4;
 // No message has an entry of this number: its messageCount is at most that.
 const NO_ENTRY: usize = 65535;
 
-// What the bytes so far decide, with how many of them that takes.
-#[derive(Clone, Copy)]
+/// What the bytes so far decide, with how many of them that takes.
+#[derive(Clone, Copy, Debug, PartialEq, Eq)]
 pub enum Decision {
+    /// Nothing yet.
     Undecided,
-    Faulty(u8, usize),
+    /// A fault, by so many bytes.
+    Faulty(Fault, usize),
+    /// A sound message of so many bytes.
     Sound(usize),
 }
 
-// A decision, and of a sound message the bytes from the entry that was looked for on: 0 where it has no such entry.
-#[derive(Clone, Copy)]
+/// A decision, and of a sound message how many bytes stand from the entry that was looked for on, if it has that entry.
+#[derive(Clone, Copy, Debug, PartialEq, Eq)]
 pub struct Found {
     pub decision: Decision,
-    pub rest: usize,
-}
-
-// Whether the entries that were walked over are sound, and how many bytes there are from some entry on.
-#[derive(Clone, Copy)]
-struct Walked {
-    sound: bool,
-    rest: usize,
+    pub rest: Option<usize>,
 }
 
 #[tactic(auto, using(laws::proofs::Conds::tests), unfolding(crate::specs::Header::count_fault))]
-fn count_fault(kind: u8, count: u16) -> u8
+fn count_fault(kind: u8, count: u16) -> Option<Fault>
     ensures { result ≡ count_fault kind count }
 {
     if count == 0 {
-        return numbers::FAULT_COUNT;
+        return Some(Fault::Count);
     }
-    if kind != KEEP_ALIVE {
-        return 0;
+    if kind == KEEP_ALIVE && count != 1 {
+        return Some(Fault::Count);
     }
-    if count == 1 {
-        return 0;
-    }
-    numbers::FAULT_COUNT
+    None
 }
 
-// The first fault of the header's fields, 2 to 5, or 0.
+// The first fault of the header's fields, 2 to 5, if they have one.
 #[tactic(auto, using(laws::proofs::Conds::tests), unfolding(crate::specs::Header::fields_fault))]
-fn fields_fault(version: u16, size: u32, kind: u8, count: u16) -> u8
+fn fields_fault(version: u16, size: u32, kind: u8, count: u16) -> Option<Fault>
     ensures { result ≡ fields_fault version size kind count }
 {
     if version != VERSION {
-        return numbers::FAULT_VERSION;
+        return Some(Fault::Version);
     }
     if size < LEAST_SIZE {
-        return numbers::FAULT_SIZE;
+        return Some(Fault::Size);
     }
     if GREATEST_SIZE < size {
-        return numbers::FAULT_SIZE;
+        return Some(Fault::Size);
     }
     if KEEP_ALIVE < kind {
-        return numbers::FAULT_TYPE;
+        return Some(Fault::Type);
     }
     count_fault(kind, count)
 }
 
 #[tactic(auto, unfolding(crate::specs::Header::header_fault))]
-fn header_fault(s: &[u8]) -> u8
+fn header_fault(s: &[u8]) -> Option<Fault>
     requires { 10 ≤ length s.now }
     ensures { result ≡ header_fault s.now }
 {
@@ -128,13 +125,11 @@ fn header_fault(s: &[u8]) -> u8
 pub fn least_entry(kind: u8) -> usize
     ensures { result ≡ least_entry kind }
 {
-    if kind < NOTIFICATION {
-        return LEAST_COMMAND;
+    match kind {
+        COMMAND | COMMAND_WANTING_REPLY => LEAST_COMMAND,
+        NOTIFICATION => LEAST_NOTIFICATION,
+        _ => LEAST_RESPONSE,
     }
-    if kind == NOTIFICATION {
-        return LEAST_NOTIFICATION;
-    }
-    LEAST_RESPONSE
 }
 
 // How many bytes the context has of the entry at the front of e: a notification's, which others have not. Nothing is checked.
@@ -144,9 +139,10 @@ pub fn context_count(kind: u8, e: &[u8]) -> usize
     ensures { (result ≡ context_count kind e.now) × (result < 2 ^ 16) }
 {
     if kind == NOTIFICATION {
-        return octets::be16(e, places::CONTEXT_COUNT) as usize;
+        octets::be16(e, places::CONTEXT_COUNT) as usize
+    } else {
+        0
     }
-    0
 }
 
 // Where the parameters start of the entry at the front of e.
@@ -170,23 +166,18 @@ fn is_context_bad(kind: u8, t: &[u8]) -> bool
 fn count_place(kind: u8) -> usize
     ensures { result ≡ count_place kind }
 {
-    if kind < NOTIFICATION {
-        return places::COMMAND_COUNT;
+    match kind {
+        COMMAND | COMMAND_WANTING_REPLY => places::COMMAND_COUNT,
+        NOTIFICATION => places::NOTIFICATION_COUNT,
+        _ => places::RESPONSE_COUNT,
     }
-    if kind == NOTIFICATION {
-        return places::NOTIFICATION_COUNT;
-    }
-    places::RESPONSE_COUNT
 }
 
 #[tactic(auto, using(laws::proofs::Conds::tests), unfolding(crate::specs::Entry::least_count))]
 fn least_count(kind: u8) -> u8
     ensures { result ≡ least_count kind }
 {
-    if kind == NOTIFICATION {
-        return 1;
-    }
-    0
+    u8::from(kind == NOTIFICATION)
 }
 
 // least is the count that has no parameter bytes; above it there is at least one.
@@ -225,75 +216,52 @@ pub fn given_size(t: &[u8]) -> usize
     octets::be32(t, 0) as usize
 }
 
-// The check of an entry, which the walk alone makes: the size of the well formed entry at the front of t, or 0 where there is none.
-#[tactic(auto, using(laws::proofs::Parts::rest, crate::proofs::Entries::least_holds, crate::proofs::Entries::context_good, crate::proofs::Entries::fits_within), unfolding(crate::specs::Entry::entry_size))]
-fn entry_size(t: &[u8], kind: u8) -> usize
-    ensures { (result ≡ entry_size kind t.now) × (result ≤ length t.now) }
+// The check of an entry, which the walk alone makes: the size of the entry at the front of t, if that is well formed.
+#[tactic(auto, using(laws::proofs::Parts::rest, crate::proofs::Entries::least_holds, crate::proofs::Entries::context_good, laws::proofs::Conds::tests), unfolding(crate::specs::Entry::entry_size, crate::specs::Scaffold::nonzero))]
+fn entry_size(t: &[u8], kind: u8) -> Option<usize>
+    ensures { result ≡ nonzero (entry_size kind t.now) }
 {
     if t.len() < least_entry(kind) {
-        return 0;
+        return None;
     }
     if is_context_bad(kind, t) {
-        return 0;
+        return None;
     }
     let offset = parameter_offset(kind, t);
     let size = given_size(t);
-    let at = count_place(kind);
-    if entry_fits(kind, offset, size, t[at], &t[offset..]) {
-        return size;
-    }
-    0
+    let count = t[count_place(kind)];
+    entry_fits(kind, offset, size, count, &t[offset..]).then_some(size)
 }
 
-// The walk over so many entries: whether each is well formed, and how many bytes stand behind them. It stops at one that is not.
-#[tactic(auto, using(laws::proofs::Parts::rest, crate::proofs::Walks::stand_end, crate::proofs::Walks::stand_bad, crate::proofs::Walks::stand_step, crate::proofs::Walks::rest_end, crate::proofs::Walks::rest_bad, crate::proofs::Walks::rest_step, crate::proofs::Walks::rest_within))]
-fn walk(body: &[u8], kind: u8, count: u16) -> Walked
-    ensures { (result.sound ≡ entries_stand count kind body.now)
-        × (result.rest ≡ rest_from count kind body.now) × (result.rest ≤ length body.now) }
+// The walk over so many entries: how many bytes stand behind them, if each is well formed.
+#[tactic(auto, using(crate::proofs::Walks::walked_end, crate::proofs::Walks::walked_bad, crate::proofs::Walks::walked_next, crate::proofs::Entries::counted_within, laws::proofs::Parts::rest))]
+fn walk(body: &[u8], kind: u8, count: u16) -> Option<usize>
+    ensures { result ≡ walked count kind body.now }
 {
     let mut t = body;
-    let mut left = count;
-    while 0 < left {
-        let n = entry_size(t, kind);
-        if n == 0 {
-            return Walked {
-                sound: false,
-                rest: t.len(),
-            };
-        }
-        t = &t[n..];
-        left -= 1;
+    for _ in 0..count {
+        t = &t[entry_size(t, kind)?..];
     }
-    Walked {
-        sound: true,
-        rest: t.len(),
-    }
+    Some(t.len())
 }
 
 // Count entries of that type fill the body exactly.
-#[tactic(auto, using(crate::proofs::Walks::fill_all))]
+#[tactic(auto, using(crate::proofs::Walks::fill_walked))]
 fn entries_fill(body: &[u8], kind: u8, count: u16) -> bool
     ensures { result ≡ entries_fill count kind body.now }
 {
-    let all = walk(body, kind, count);
-    all.sound & (all.rest == 0)
+    walk(body, kind, count) == Some(0)
 }
 
-// The same, with the bytes from entry index on: one walk, up to that entry and then on.
-#[tactic(auto, using(crate::proofs::Walks::fill_found, crate::proofs::Walks::fill_broken, laws::proofs::Parts::rest))]
-fn entries_found(body: &[u8], kind: u8, count: u16, index: u16) -> Walked
+// Of entries that fill the body the bytes from entry index on: one walk, up to that entry and then on.
+#[tactic(auto, using(crate::proofs::Walks::found_some, crate::proofs::Walks::found_none, crate::proofs::Walks::found_within, laws::proofs::Parts::rest))]
+fn entries_found(body: &[u8], kind: u8, count: u16, index: u16) -> Option<usize>
     requires { index < count }
-    ensures { (result.sound ≡ entries_fill count kind body.now) × (result.rest ≡ rest_from index kind body.now) }
+    ensures { result ≡ cond (entries_fill count kind body.now) (Some (rest_from index kind body.now)) None }
 {
-    let before = walk(body, kind, index);
-    if !before.sound {
-        return before;
-    }
-    let at = body.len() - before.rest;
-    Walked {
-        sound: entries_fill(&body[at..], kind, count - index),
-        rest: before.rest,
-    }
+    let rest = walk(body, kind, index)?;
+    let behind = &body[body.len() - rest..];
+    entries_fill(behind, kind, count - index).then_some(rest)
 }
 
 // R14. The bytes are one entry of that type, 0 to 3, and nothing more.
@@ -329,52 +297,55 @@ fn keep_alive_fill(body: &[u8]) -> bool
     body.len() == MILLISECONDS_BYTES
 }
 
-// Whether the data is sound, with the bytes from entry index on: 0 where there is no such entry.
-#[tactic(auto, using(laws::proofs::Conds::tests), unfolding(crate::specs::Decide::data_sound, crate::specs::Scaffold::data_rest))]
-fn data_sound(kind: u8, count: u16, body: &[u8], index: usize) -> Walked
-    ensures { (result.sound ≡ data_sound kind count body.now) × (result.rest ≡ data_rest kind count body.now index) }
+#[tactic(auto, using(laws::proofs::Conds::tests), unfolding(crate::specs::Decide::data_sound))]
+fn data_sound(kind: u8, count: u16, body: &[u8]) -> bool
+    ensures { result ≡ data_sound kind count body.now }
 {
     if kind == KEEP_ALIVE {
-        return Walked {
-            sound: keep_alive_fill(body),
-            rest: 0,
-        };
-    }
-    if index < count as usize {
-        return entries_found(body, kind, count, index as u16);
-    }
-    Walked {
-        sound: entries_fill(body, kind, count),
-        rest: 0,
+        keep_alive_fill(body)
+    } else {
+        entries_fill(body, kind, count)
     }
 }
 
-// A decision that is not for a sound message finds no entry.
-fn unfound(decision: Decision) -> Found
-    ensures { (result.decision ≡ decision) × (result.rest ≡ 0) }
+// The decision of the last of n bytes.
+fn decide_last(sound: bool, n: usize) -> Decision
+    ensures { result ≡ cond sound (Sound n) (Faulty fault.Data n) }
 {
-    Found { decision, rest: 0 }
+    if sound {
+        Decision::Sound(n)
+    } else {
+        Decision::Faulty(Fault::Data, n)
+    }
+}
+
+// A decision that finds no entry.
+#[tactic(auto, unfolding(crate::specs::Scaffold::nonzero))]
+fn unfound(decision: Decision) -> Found
+    ensures { (result.decision ≡ decision) × (result.rest ≡ nonzero 0) }
+{
+    Found {
+        decision,
+        rest: None,
+    }
 }
 
 // m is a whole message with a sound header.
-#[tactic(auto, using(laws::proofs::Parts::rest, crate::proofs::Walks::rest_sound, crate::proofs::Walks::rest_faulty), unfolding(crate::specs::Decide::decide_data, crate::specs::Scaffold::message_rest))]
 fn decide_data(m: &[u8], index: usize) -> Found
     requires { 10 ≤ length m.now }
     ensures { Finds (decide_data m.now) m.now index result }
 {
-    let all = data_sound(
-        m[places::TYPE],
-        octets::be16(m, places::MESSAGE_COUNT),
-        &m[HEADER_END..],
-        index,
-    );
-    if all.sound {
+    let kind = m[places::TYPE];
+    let count = octets::be16(m, places::MESSAGE_COUNT);
+    let body = &m[HEADER_END..];
+    if kind != KEEP_ALIVE && index < count as usize {
+        let rest = entries_found(body, kind, count, index as u16);
         return Found {
-            decision: Decision::Sound(m.len()),
-            rest: all.rest,
+            decision: decide_last(rest.is_some(), m.len()),
+            rest,
         };
     }
-    unfound(Decision::Faulty(numbers::FAULT_DATA, m.len()))
+    unfound(decide_last(data_sound(kind, count, body), m.len()))
 }
 
 // s has a whole header.
@@ -383,8 +354,7 @@ fn decide_header(s: &[u8], index: usize) -> Found
     requires { 10 ≤ length s.now }
     ensures { Finds (decide_header (header_fault s.now) s.now) s.now index result }
 {
-    let fault = header_fault(s);
-    if fault != 0 {
+    if let Some(fault) = header_fault(s) {
         return unfound(Decision::Faulty(fault, HEADER_END));
     }
     let n = octets::be32(s, places::SIZE) as usize + 1;
@@ -399,10 +369,7 @@ fn decide_header(s: &[u8], index: usize) -> Found
 fn has_header(s: &[u8]) -> bool
     ensures { result ≡ has_header s.now }
 {
-    if s.len() < HEADER_END {
-        return false;
-    }
-    s[0] == SYNC
+    s.len() >= HEADER_END && s[0] == SYNC
 }
 
 // What is decided where there is no header: a wrong first byte, or nothing yet.
@@ -411,13 +378,10 @@ fn decide_start(s: &[u8]) -> Decision
     requires { has_header s.now ≡ false }
     ensures { result ≡ decide s.now }
 {
-    if s.len() == 0 {
-        return Decision::Undecided;
+    match s.first() {
+        Some(&SYNC) | None => Decision::Undecided,
+        Some(_) => Decision::Faulty(Fault::Start, 1),
     }
-    if s[0] != SYNC {
-        return Decision::Faulty(numbers::FAULT_START, 1);
-    }
-    Decision::Undecided
 }
 
 // What the bytes at the front of s decide.

@@ -1,12 +1,5 @@
 -- Locking and sweeping keep the rule of the holders. No code is named. Assumes nothing.
-use Prim.Native.Nat.{ℕ, ◌+◌, ◌-◌}
-use mathlib.Core.Path.{◌≡◌, refl}
-use mathlib.Core.Logic.{⊎_elim}
-use mathlib.Core.Bool.{Bool, true, false, cond}
-use mathlib.Core.List.{List}
-use native.Mathlib.Omega.{arith}
-use borrow.Author.Tests.{ne_eqb}
-use lib.Dec.{eqb, ltb}
+use Rattle.std.proofs.Common.{ℕ, ◌+◌, ◌-◌, ◌≡◌, refl, ⊎_elim, Bool, true, false, cond, List, arith, ne_eqb, eqb, ltb}
 use Rattle.laws.proofs.Tables.{or_cases, or_right}
 use Rattle.connection.specs.State.{live_at}
 use Rattle.connection.specs.declared.Connection.{Connection}

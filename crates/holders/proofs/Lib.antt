@@ -1,2 +1,1 @@
-pub mod Holds
 pub mod Keeps

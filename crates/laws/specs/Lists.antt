@@ -1,15 +1,14 @@
 -- Tests and searches over a list, for any element type: no rule is here.
-use Rattle.std.specs.Prelude.{ℕ, suc, ◌+◌, ◌*◌, Bool, true, false, cond, ◌&&◌, ◌||◌, List, [], ◌∷◌, ◌++◌}
+use Rattle.std.specs.Prelude.{ℕ, suc, ◌+◌, ◌*◌, Bool, true, cond, ◌&&◌, List, [], ◌∷◌, ◌++◌}
+use Rattle.std.specs.List.{list_all, list_any}
 
 -- Every element meets the test.
 abbrev pub all : {A : Type 0} → (A → Bool) → List A → Bool
-all p [] = true
-all p (x ∷ xs) = p x && all p xs
+all p xs = list_all p xs
 
 -- Some element meets the test.
 abbrev pub any : {A : Type 0} → (A → Bool) → List A → Bool
-any p [] = false
-any p (x ∷ xs) = p x || any p xs
+any p xs = list_any p xs
 
 -- Every element stands in r to each one after it.
 abbrev pub all_pairs : {A : Type 0} → (A → A → Bool) → List A → Bool

@@ -1,4 +1,4 @@
-// A message's bytes in a buffer: the 3B and the header, and a keep-alive whole.
+//! A message's bytes in a buffer: the 3B and the header, and a keep-alive whole.
 #![tactic(auto)]
 
 ghost use Rattle.std.specs.Prelude.{◌≡◌, ◌≤◌, length};
@@ -7,7 +7,7 @@ ghost use Rattle.octets.specs.Numbers.{bytes16, bytes32};
 ghost use Rattle.frame.specs.Limits.{header_end, keep_alive};
 ghost use Rattle.layout.specs.Message.{head_bytes, message, at_front};
 
-// The 3B and the header.
+/// The 3B and the header, at the front of `buf`.
 #[tactic(auto, using(crate::proofs::Messages::head_stores))]
 pub fn put_head(buf: &mut [u8], kind: u8, count: u16, size: u32)
     requires { header_end ≤ length buf.old }
@@ -20,7 +20,7 @@ pub fn put_head(buf: &mut [u8], kind: u8, count: u16, size: u32)
     octets::put16(buf, frame::places::MESSAGE_COUNT, count);
 }
 
-// The keep-alive that carries these seconds.
+/// The keep-alive that carries these seconds, at the front of `buf`.
 #[tactic(auto, using(octets::proofs::Digits::length_bytes16, crate::proofs::Messages::put_whole))]
 pub fn put_seconds(buf: &mut [u8], beat: heartbeat::Seconds)
     requires { 12 ≤ length buf.old }
@@ -35,7 +35,7 @@ pub fn put_seconds(buf: &mut [u8], beat: heartbeat::Seconds)
     octets::put16(buf, frame::HEADER_END, beat.0);
 }
 
-// The keep-alive that carries these milliseconds.
+/// The keep-alive that carries these milliseconds, at the front of `buf`.
 #[tactic(auto, using(octets::proofs::Digits::length_bytes32, crate::proofs::Messages::put_whole))]
 pub fn put_milliseconds(buf: &mut [u8], beat: heartbeat::Milliseconds)
     requires { 14 ≤ length buf.old }

@@ -1,12 +1,18 @@
 -- Lines put one behind another. Assumes nothing.
-use Prim.Native.Nat.{ℕ, ◌+◌}
+use Prim.Native.Nat.{ℕ, ◌+◌, ◌≤◌}
 use mathlib.Core.Path.{◌≡◌, refl, sym, ap, ◌∙◌}
 use mathlib.Core.List.{List, [], ◌∷◌, ◌++◌}
 use native.Mathlib.Nat.{add-zero, add_assoc}
 use lib.ListN.{length, set, length-append}
 use lib.Seq.{length-sets}
-use Rattle.laws.proofs.Stores.{sets_append}
+use borrow.Rule.Slice.PartMut.{put_mid}
+use Rattle.laws.proofs.Stores.{sets_append, sets_mid}
 use Rattle.lines.specs.Scaffold.{Puts}
+
+-- all of s, copied over as many bytes
+pub puts_all : (s out : List ℕ) (at n : ℕ) {copied : List ℕ} → length s ≡ n → at + n ≤ length out → copied ≡ s
+    → Puts s out at (put_mid at n out copied) (at + length s)
+puts_all s out at n e h c = record { text = rw c (sets_mid s out at n e h); next = refl }
 
 pub puts_none : (out : List ℕ) (at : ℕ) → Puts [] out at out at
 puts_none out at = record { text = refl; next = sym (add-zero at) }

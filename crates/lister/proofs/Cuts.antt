@@ -11,6 +11,7 @@ use Rattle.laws.specs.Lists.{joined}
 use Rattle.frame.specs.Limits.{greatest_size}
 use Rattle.frame.specs.Decide.{decide, settled}
 use Rattle.frame.specs.declared.Decision.{Decision}
+use Rattle.numbers.specs.declared.Fault.{Fault}
 use Rattle.frame.specs.declared.Decision.TheVariants.{Undecided, Faulty, Sound}
 use Rattle.frame.proofs.Ways.{deciding}
 use Rattle.frame.proofs.Sounds.{sound_at}
@@ -115,7 +116,7 @@ listing_more at s t =
     ∙ rw (unlisted_more s t, m, lines_append at (sound_messages s) (sound_messages u)) (append_assoc (lines_of at (sound_messages s)) _ _)
 
 -- a fault stands whatever follows
-listing_stopped : (at f n : ℕ) (u t : List ℕ) → decide u ≡ Faulty f n → listing_from at (u ++ t) ≡ last_line at u
+listing_stopped : (at : ℕ) (f : Fault) (n : ℕ) (u t : List ℕ) → decide u ≡ Faulty f n → listing_from at (u ++ t) ≡ last_line at u
 unfolding listing_from last_line last_by settled lines_of
 listing_stopped at f n u t e =
     let d : decide (u ++ t) ≡ Faulty f n = deciding.lasting u t (ap settled e) ∙ e in
@@ -134,7 +135,7 @@ end_over s = go (decide (unlisted s))
 
 -- what a piece that does not end the input leaves
 data Left (s : List ℕ) : Type 0 where
-  stops : (f n : ℕ) → decide (unlisted s) ≡ Faulty f n → over false s ≡ true → Left s
+  stops : (f : Fault) (n : ℕ) → decide (unlisted s) ≡ Faulty f n → over false s ≡ true → Left s
   goes : decide (unlisted s) ≡ Undecided → over false s ≡ false → Left s
 
 left : (s : List ℕ) → Left s

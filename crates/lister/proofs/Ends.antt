@@ -14,6 +14,8 @@ use Rattle.split.specs.Split.{sound_messages}
 use Rattle.lister.specs.Listing.{bytes_of, lines_of, last_by, last_line, listed_bytes, unlisted}
 use Rattle.lister.specs.Pieces.{over_by, over, piece_text, ListsPiece}
 use Rattle.lister.specs.Scaffold.{fault_by, stopped_by, Lists}
+use Rattle.std.specs.Prelude.{Option, None}
+use Rattle.numbers.specs.declared.Fault.{Fault}
 use Rattle.lister.specs.declared.Listed.{Listed}
 use Rattle.lister.proofs.Cuts.{pieces_laws}
 use Rattle.lister.proofs.Stops.{stopped_over, stopped_last, stopped_short}
@@ -24,14 +26,14 @@ module _ {s before mid : List ℕ} {offset : ℕ} {r : Listed} (l : Lists (sound
   unfolding unlisted listed_bytes
   left_bytes = omega (arith, length-drop (bytes_of (sound_messages s)) s, l.used)
 
-  pub left_short : r.fault ≡ 0 → length s - r.used ≤ greatest_size
+  pub left_short : r.fault ≡ None → length s - r.used ≤ greatest_size
   left_short z =
       let u = stopped_short (unlisted s) (pieces_laws.all s) (sym g ∙ z) in
       omega (arith, left_bytes, deciding.short (unlisted s) u)
 
   over_left : (end : Bool) {b : Bool} → over_by end (stopped_by r.fault) ≡ b → over end s ≡ b
   unfolding over
-  over_left end h = sym (stopped_over (unlisted s) end) ∙ ap (λ (f : ℕ). over_by end (stopped_by f)) (sym g) ∙ h
+  over_left end h = sym (stopped_over (unlisted s) end) ∙ ap (λ (f : Option Fault). over_by end (stopped_by f)) (sym g) ∙ h
 
   last_left : last_by (stopped_by r.fault) (offset + r.used) (length s - r.used) ≡ last_line (offset + listed_bytes s) (unlisted s)
   unfolding last_line listed_bytes

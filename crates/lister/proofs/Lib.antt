@@ -2,5 +2,4 @@ pub mod Readings
 pub mod Walks
 pub mod Stops
 pub mod Ends
-pub mod Moves
 pub mod Cuts

@@ -8,7 +8,12 @@ use lib.Dec.{eqb}
 use lib.ListN.{length, drop, get_or}
 use borrow.Author.Tests.{eq-eqb, eqb-true}
 use Rattle.laws.proofs.Conds.{cond_left, cond_right}
-use Rattle.numbers.specs.Fault.{fault_count}
+use Rattle.std.specs.Prelude.{Some, None, Ok, Err}
+use Rattle.numbers.specs.declared.Fault.TheVariants as fault
+use Rattle.numbers.specs.Refusal.{refusal_numbers}
+use Rattle.numbers.specs.declared.Refusal.{Refusal}
+use Rattle.numbers.specs.declared.Refusal.TheVariants as refusal
+use Rattle.numbers.proofs.Tables.{numbers_table}
 use Rattle.frame.specs.Limits.{header_end, greatest_size, keep_alive}
 use Rattle.frame.specs.Header.{pdu_size, pdu_type, message_count, count_fault}
 use Rattle.frame.specs.Decide.{decide}
@@ -21,15 +26,16 @@ use Rattle.fields.specs.Fields.{heartbeat_of}
 use Rattle.reader.specs.Numbers.{heartbeat_numbers, message_numbers, reading_numbers}
 use Rattle.reader.specs.Read.{data_of, message_of, read_by, read_of}
 use Rattle.reader.specs.declared.Message.{Message}
-use Rattle.reader.specs.declared.Reading.TheVariants.{Read, Fault, Short}
+use Rattle.reader.proofs.Tells.{first_told}
+use Rattle.lister.specs.Scaffold.{fault_of, fault_by}
 
 -- a keep-alive without a fault has messageCount 1
-keep_count : (kind count : ℕ) → kind ≡ keep_alive → count_fault kind count ≡ 0 → count ≡ 1
+keep_count : (kind count : ℕ) → kind ≡ keep_alive → count_fault kind count ≡ None → count ≡ 1
 unfolding count_fault
 keep_count kind count k e =
-    let p = cond_right (eqb count 0) fault_count _ 0 e (λ z. omega arith) in
+    let p = cond_right (eqb count 0) (Some fault.Count) _ None e (λ z. let y : ◌≡◌ {A = ℕ} 0 1 = cc in omega arith) in
     let q = rw (eq-eqb kind keep_alive k) at p.1 in
-    let r = cond_left (eqb count 1) 0 fault_count 0 q (λ z. omega arith) in
+    let r = cond_left (eqb count 1) None (Some fault.Count) None q (λ z. let y : ◌≡◌ {A = ℕ} 0 1 = cc in omega arith) in
     eqb-true count 1 r.0
 
 -- the type and messageCount that the reader tells are the header's
@@ -49,16 +55,16 @@ message_told_lem s n w = go (eqb (pdu_type s) keep_alive) refl
     go false e = record { kind = refl; count = refl }
 
 module _ (s : List ℕ) where
-  pub read_sound : (m : Message) (n : ℕ) → reading_numbers (Read m n) ≡ read_of s → decide s ≡ Sound n
+  pub read_sound : (m : Message) (n : ℕ) → reading_numbers (Ok (record { message = m; length = n })) ≡ read_of s → decide s ≡ Sound n
   unfolding read_of read_by reading_numbers
   read_sound m n e = go (decide s) e
     where
-      go : (d : Decision) → reading_numbers (Read m n) ≡ read_by d s → d ≡ Sound n
+      go : (d : Decision) → reading_numbers (Ok (record { message = m; length = n })) ≡ read_by d s → d ≡ Sound n
       go Undecided q = absurd (omega (arith, ap (λ (l : List ℕ). get_or l 0 0) q))
       go (Faulty f k) q = absurd (omega (arith, ap (λ (l : List ℕ). get_or l 0 0) q))
       go (Sound k) q = ap Sound (sym (ap (λ (l : List ℕ). get_or l 1 0) q))
 
-  pub read_told : (m : Message) (n : ℕ) → reading_numbers (Read m n) ≡ read_of s → Told s (message_numbers m)
+  pub read_told : (m : Message) (n : ℕ) → reading_numbers (Ok (record { message = m; length = n })) ≡ read_of s → Told s (message_numbers m)
   unfolding read_of read_by reading_numbers
   read_told m n e =
       let d = read_sound m n e in
@@ -66,39 +72,22 @@ module _ (s : List ℕ) where
       rw q (message_told_lem s n (sound_at s n d))
 
   -- the length that the reader tells
-  pub read_size : (m : Message) (n : ℕ) → reading_numbers (Read m n) ≡ read_of s → (header_end ≤ n) × (n ≤ length s) × (n - 1 ≡ pdu_size s) × (pdu_size s ≤ greatest_size)
+  pub read_size : (m : Message) (n : ℕ) → reading_numbers (Ok (record { message = m; length = n })) ≡ read_of s → (header_end ≤ n) × (n ≤ length s) × (n - 1 ≡ pdu_size s) × (pdu_size s ≤ greatest_size)
   read_size m n e =
       let w = sound_at s n (read_sound m n e) in
       let h = sound_header s w.header in
       omega (arith, w.low, w.high, w.size, h.high)
 
-  -- a fault, with the bytes that decide it
-  pub read_fault : (f : ℕ) → reading_numbers (Fault f) ≡ read_of s → (n : ℕ) × (decide s ≡ Faulty f n)
-  unfolding read_of read_by reading_numbers
-  read_fault f e = go (decide s) e
+  -- what a refusal tells: no sound message, and the fault if there is one
+  pub read_refused : (r : Refusal) → reading_numbers (Err r) ≡ read_of s → ((n : ℕ) → decide s ≡ Sound n → ⊥) × (fault_of r ≡ fault_by (decide s))
+  unfolding read_of read_by reading_numbers fault_by
+  read_refused r e = go (decide s) e
     where
-      go : (d : Decision) → reading_numbers (Fault f) ≡ read_by d s → (n : ℕ) × (d ≡ Faulty f n)
-      go Undecided q = absurd (omega (arith, ap (λ (l : List ℕ). get_or l 0 0) q))
-      go (Faulty g k) q = (k, ap (λ (x : ℕ). Faulty x k) (sym (ap (λ (l : List ℕ). get_or l 1 0) q)))
-      go (Sound k) q = absurd (omega (arith, ap (λ (l : List ℕ). get_or l 0 0) q))
-
-  pub read_short : reading_numbers Short ≡ read_of s → decide s ≡ Undecided
-  unfolding read_of read_by reading_numbers
-  read_short e = go (decide s) e
-    where
-      go : (d : Decision) → reading_numbers Short ≡ read_by d s → d ≡ Undecided
-      go Undecided q = refl
-      go (Faulty f k) q = absurd (omega (arith, ap (λ (l : List ℕ). get_or l 0 0) q))
-      go (Sound k) q = absurd (omega (arith, ap (λ (l : List ℕ). get_or l 0 0) q))
-
-  pub fault_unsound : (f : ℕ) → reading_numbers (Fault f) ≡ read_of s → (n : ℕ) → decide s ≡ Sound n → ⊥
-  fault_unsound f e n d =
-      let p = (read_fault f e).1 in
-      let z : ◌≡◌ {A = ℕ} 0 1 = cc in
-      omega arith
-
-  pub short_unsound : reading_numbers Short ≡ read_of s → (n : ℕ) → decide s ≡ Sound n → ⊥
-  short_unsound e n d =
-      let p = read_short e in
-      let z : ◌≡◌ {A = ℕ} 0 1 = cc in
-      omega arith
+      go : (d : Decision) → refusal_numbers r ≡ read_by d s → ((n : ℕ) → d ≡ Sound n → ⊥) × (fault_of r ≡ fault_by d)
+      go Undecided q =
+          let y : r ≡ refusal.Short = numbers_table.names.refusal_told r refusal.Short q in
+          (λ n z. let o : ◌≡◌ {A = ℕ} 0 1 = cc in omega arith, ap fault_of y)
+      go (Faulty f k) q =
+          let y : r ≡ refusal.Fault f = numbers_table.names.refusal_told r (refusal.Fault f) q in
+          (λ n z. let o : ◌≡◌ {A = ℕ} 0 1 = cc in omega arith, ap fault_of y)
+      go (Sound k) q = absurd (numbers_table.names.refused r (sym (first_told r) ∙ ap (λ (l : List ℕ). get_or l 0 0) q))

@@ -14,16 +14,18 @@ use Rattle.frame.proofs.Sounds.{sound_at, type_take, count_take, size_take}
 use Rattle.reader.specs.Numbers.{message_numbers, reading_numbers}
 use Rattle.reader.specs.Read.{read_of}
 use Rattle.reader.specs.declared.Message.{Message}
-use Rattle.reader.specs.declared.Reading.TheVariants.{Read, Fault, Short}
+use Rattle.std.specs.Prelude.{Option, None, Ok, Err}
+use Rattle.numbers.specs.declared.Fault.{Fault}
+use Rattle.numbers.specs.declared.Refusal.{Refusal}
 use Rattle.lines.specs.Text.{message_line}
 use Rattle.lines.specs.Scaffold.{Puts, PutsLine}
 use Rattle.lines.proofs.Putting.{puts_none, puts_then}
 use Rattle.split.specs.Split.{sound_messages}
 use Rattle.split.proofs.Splits.{sound_none_lem, sound_then_lem}
 use Rattle.lister.specs.Listing.{bytes_of, line_of, lines_of, listed_bytes, unlisted}
-use Rattle.lister.specs.Scaffold.{sound_first, first_of, fault_by, Lists}
+use Rattle.lister.specs.Scaffold.{sound_first, first_of, fault_of, fault_by, Lists}
 use Rattle.lister.specs.declared.Listed.{Listed}
-use Rattle.lister.proofs.Readings.{read_sound, read_told, read_size, read_fault, read_short, fault_unsound, short_unsound}
+use Rattle.lister.proofs.Readings.{read_sound, read_told, read_size, read_refused}
 
 -- no sound message stands at the front of s
 abbrev pub Unsound : List ℕ → Type 0
@@ -32,7 +34,7 @@ Unsound s = (n : ℕ) → decide s ≡ Sound n → ⊥
 pub nothing_unsound : (s : List ℕ) → length s ≤ 0 → Unsound s
 nothing_unsound s h n e = let w = sound_at s n e in omega (arith, w.low, w.high)
 
-pub nothing_fault : (s : List ℕ) → length s ≤ 0 → 0 ≡ fault_by (decide s)
+pub nothing_fault : (s : List ℕ) → length s ≤ 0 → None ≡ fault_by (decide s)
 unfolding fault_by
 nothing_fault s h = sym (ap fault_by (way_back s Undecided (none (omega arith))))
 
@@ -106,7 +108,7 @@ module _ {s before out out' rest : List ℕ} {offset used put : ℕ} {r : Listed
       }
 
 -- nothing sound is left, and what is left has the fault f
-pub walked_all : {s before out : List ℕ} {offset used put f : ℕ} → Walked s offset before used put out → Unsound (drop used s) → f ≡ fault_by (decide (drop used s))
+pub walked_all : {s before out : List ℕ} {offset used put : ℕ} {f : Option Fault} → Walked s offset before used put out → Unsound (drop used s) → f ≡ fault_by (decide (drop used s))
     → Lists (sound_messages s) s offset before 0 out (record { used = used; put = put; fault = f }) × (f ≡ fault_by (decide (unlisted s)))
 unfolding unlisted listed_bytes
 walked_all {s} {before} {out} {offset} {used} {put} {f} w u g =
@@ -132,27 +134,21 @@ walked_stop {s} {before} {out} {out'} {rest} {offset} {used} {put} {r} w e l z g
     rw o (walked_all w (rw e at u) (rw e at g))
 
 module _ (s : List ℕ) (offset : ℕ) (out : List ℕ) (at : ℕ) where
-  first_not : {f : ℕ} → Unsound s → Lists (first_of s) s offset out at out (record { used = 0; put = at; fault = f })
+  first_not : {f : Option Fault} → Unsound s → Lists (first_of s) s offset out at out (record { used = 0; put = at; fault = f })
   unfolding first_of bytes_of lines_of
   first_not u =
       rw (first_none (decide s) s u)
       (record { used = refl; within = omega arith; puts = puts_none out at; room = omega arith })
 
-  pub first_fault : (f : ℕ) → reading_numbers (Fault f) ≡ read_of s
-      → Lists (first_of s) s offset out at out (record { used = 0; put = at; fault = f }) × (f ≡ fault_by (decide s))
-  unfolding fault_by
-  first_fault f e = (first_not (fault_unsound s f e), sym (ap fault_by (read_fault s f e).1))
-
-  pub first_short : reading_numbers Short ≡ read_of s
-      → Lists (first_of s) s offset out at out (record { used = 0; put = at; fault = 0 }) × (0 ≡ fault_by (decide s))
-  unfolding fault_by
-  first_short e = (first_not (short_unsound s e), sym (ap fault_by (read_short s e)))
+  pub first_refused : (r : Refusal) → reading_numbers (Err r) ≡ read_of s
+      → Lists (first_of s) s offset out at out (record { used = 0; put = at; fault = fault_of r }) × (fault_of r ≡ fault_by (decide s))
+  first_refused r e = let w = read_refused s r e in (first_not w.0, w.1)
 
   -- a line was put for the message that the reader told
-  pub first_listed : (m : Message) (n : ℕ) → reading_numbers (Read m n) ≡ read_of s
+  pub first_listed : (m : Message) (n : ℕ) → reading_numbers (Ok (record { message = m; length = n })) ≡ read_of s
       → {kind count r : ℕ} {after : List ℕ} → kind ≡ get_or (message_numbers m) 0 0 → count ≡ get_or (message_numbers m) 1 0
       → PutsLine (message_line offset kind count (n - 1)) out at after r
-      → Lists (first_of s) s offset out at after (record { used = n; put = r; fault = 0 }) × (0 ≡ fault_by (decide s))
+      → Lists (first_of s) s offset out at after (record { used = n; put = r; fault = None }) × (None ≡ fault_by (decide s))
   unfolding first_of sound_first fault_by bytes_of lines_of line_of
   first_listed m n e {kind} {count} {r} {after} k c p =
       let d = read_sound s m n e in

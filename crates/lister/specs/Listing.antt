@@ -1,5 +1,6 @@
 -- R78, R79. The listing of some input.
 use Rattle.std.specs.Prelude.{ℕ, ◌+◌, List, [], ◌∷◌, ◌++◌, cond, length, drop, eqb}
+use Rattle.numbers.specs.Fault.{fault_number}
 use Rattle.frame.specs.Header.{pdu_size, pdu_type, message_count}
 use Rattle.frame.specs.Decide.{decide}
 use Rattle.frame.specs.declared.Decision.{Decision}
@@ -23,7 +24,7 @@ lines_of at (m ∷ ms) = line_of at m ++ lines_of (at + length m) ms
 
 -- R79. The last line, where left bytes stand at the offset at and decide d.
 unfoldable pub last_by : Decision → ℕ → ℕ → List ℕ
-last_by (Faulty f n) at left = stop_line at f
+last_by (Faulty f n) at left = stop_line at (fault_number f)
 last_by Undecided at left = cond (eqb left 0) (end_line at) (part_line at left)
 -- never behind all the sound messages
 last_by (Sound n) at left = []

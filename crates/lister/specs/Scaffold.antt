@@ -1,5 +1,8 @@
 -- For the contracts of inner functions and for proofs: no rule is here.
-use Rattle.std.specs.Prelude.{ℕ, ◌+◌, ◌*◌, ◌≤◌, ◌≡◌, List, [], ◌∷◌, cond, eqb, length, take}
+use Rattle.std.specs.Prelude.{ℕ, ◌+◌, ◌*◌, ◌≤◌, ◌≡◌, List, [], ◌∷◌, Option, Some, None, length, take}
+use Rattle.numbers.specs.declared.Fault.{Fault}
+use Rattle.numbers.specs.declared.Refusal.{Refusal}
+use Rattle.numbers.specs.declared.Refusal.TheVariants as refusal
 use Rattle.frame.specs.Decide.{decide}
 use Rattle.frame.specs.declared.Decision.{Decision}
 use Rattle.frame.specs.declared.Decision.TheVariants.{Undecided, Faulty, Sound}
@@ -17,15 +20,30 @@ sound_first (Sound n) s = take n s ∷ []
 unfoldable pub first_of : List ℕ → List (List ℕ)
 first_of s = sound_first (decide s) s
 
--- The fault of bytes that decide d; 0 where they have none.
-unfoldable pub fault_by : Decision → ℕ
-fault_by Undecided = 0
-fault_by (Faulty f n) = f
-fault_by (Sound n) = 0
+-- The fault of bytes that decide d, if they have one.
+unfoldable pub fault_by : Decision → Option Fault
+fault_by Undecided = None
+fault_by (Faulty f n) = Some f
+fault_by (Sound n) = None
+
+-- The fault that a refusal tells, if it tells one.
+abbrev pub fault_of : Refusal → Option Fault
+fault_of refusal.BadRecord = None
+fault_of refusal.BadArea = None
+fault_of refusal.NoConnection = None
+fault_of refusal.NoRoom = None
+fault_of refusal.TableFull = None
+fault_of refusal.ClockBack = None
+fault_of (refusal.Fault f) = Some f
+fault_of refusal.Short = None
+fault_of refusal.TooLong = None
+fault_of refusal.BadEntry = None
+fault_of refusal.NoEntry = None
 
 -- What bytes that are not sound decide, by their fault; how many of them it takes is left out.
-unfoldable pub stopped_by : ℕ → Decision
-stopped_by fault = cond (eqb fault 0) Undecided (Faulty fault 0)
+unfoldable pub stopped_by : Option Fault → Decision
+stopped_by None = Undecided
+stopped_by (Some f) = Faulty f 0
 
 -- ms, messages at the front of s, which stands from the offset on, were listed.
 pub record Lists (ms : List (List ℕ)) (s : List ℕ) (offset : ℕ) (before : List ℕ) (at : ℕ) (after : List ℕ) (r : Listed) : Type 0 where

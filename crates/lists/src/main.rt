@@ -49,27 +49,16 @@ fn list_file(rt: &HostRuntime, name: &[u8]) {
     }
 }
 
-// The answer is false behind the last argument.
-fn list_argument(rt: &HostRuntime, i: usize) -> bool {
-    let mut space = [0u8; 4096];
-    match Env::arg(rt, i, &mut space) {
-        Ok(n) => {
-            list_file(rt, &space[..n]);
-            true
-        }
-        Err(FillError::TooLong) => {
-            fail(rt, b"an argument", "File name too long");
-            say(rt, b"an argument is longer than any name\n");
-            true
-        }
-        Err(FillError::NotPresent) => false,
-    }
-}
-
 fn main(rt: HostRuntime) {
+    let mut name = [0u8; 4096];
     for i in 1..usize::MAX {
-        if !list_argument(&rt, i) {
-            return;
+        match Env::arg(&rt, i, &mut name) {
+            Ok(n) => list_file(&rt, &name[..n]),
+            Err(FillError::TooLong) => {
+                fail(&rt, b"an argument", "File name too long");
+                say(&rt, b"an argument is longer than any name\n");
+            }
+            Err(FillError::NotPresent) => return,
         }
     }
 }

@@ -15,7 +15,8 @@ use Rattle.octets.specs.Numbers.{be16_at, be32_at, bytes16, bytes32, Octets}
 use Rattle.octets.proofs.Digits.{be16_small, bytes16_be16, bytes32_be32, octets_take, octets_drop}
 use Rattle.heartbeat.specs.Beat.{seconds_form, milliseconds_form, form_of, value_of, greatest_seconds}
 use Rattle.heartbeat.specs.declared.Heartbeat.TheVariants.{InSeconds, InMilliseconds}
-use Rattle.numbers.specs.Fault.{fault_count}
+use Rattle.std.specs.Prelude.{Some, None}
+use Rattle.numbers.specs.declared.Fault.TheVariants as fault
 use Rattle.frame.specs.Limits.{greatest_size, response, keep_alive, seconds_bytes, milliseconds_bytes}
 use Rattle.frame.specs.Header.{pdu_type, message_count, count_fault}
 use Rattle.frame.specs.Entry.{entry_size, entries_fill}
@@ -111,10 +112,10 @@ module _ (buf : List ℕ) (kind : ℕ) (room : least_room ≤ length buf) (low :
       let n : suc c ≡ 1 + c = omega arith in
       rw n (rw both at (make_from c (drop k t) e 1 (start_made e o (omega arith)) (omega arith) o q.1 (rw both z)))
 
-count_some : (kind count : ℕ) → count_fault kind count ≡ 0 → 0 < count
+count_some : (kind count : ℕ) → count_fault kind count ≡ None → 0 < count
 unfolding count_fault
 count_some kind count h =
-    let p = cond_right (eqb count 0) fault_count _ 0 h (λ e. omega arith) in
+    let p = cond_right (eqb count 0) (Some fault.Count) _ None h (λ e. let z : ◌≡◌ {A = ℕ} 0 1 = cc in omega arith) in
     let q = eqb-false count 0 p.0 in
     omega arith
 
@@ -179,11 +180,11 @@ read_beat s n l h k = go (decide s) refl h
         let r : message_of s m ≡ keep_alive ∷ 1 ∷ l = cc in
         kept m q d (eqb (pdu_type s) keep_alive) refl r
 
-count_one : (count : ℕ) → count_fault keep_alive count ≡ 0 → count ≡ 1
+count_one : (count : ℕ) → count_fault keep_alive count ≡ None → count ≡ 1
 unfolding count_fault
 count_one count h =
-    let p = cond_right (eqb count 0) fault_count _ 0 h (λ e. omega arith) in
-    eqb-true count 1 (cond_left (eqb count 1) 0 fault_count 0 p.1 (λ e. omega arith)).0
+    let p = cond_right (eqb count 0) (Some fault.Count) _ None h (λ e. let z : ◌≡◌ {A = ℕ} 0 1 = cc in omega arith) in
+    eqb-true count 1 (cond_left (eqb count 1) None (Some fault.Count) None p.1 (λ e. let z : ◌≡◌ {A = ℕ} 0 1 = cc in omega arith)).0
 
 pub keep_again : (s buf : List ℕ) (n form value : ℕ) → Octets s → least_room ≤ length buf
     → read_of s ≡ 0 ∷ n ∷ keep_alive ∷ 1 ∷ form ∷ value ∷ [] → keep_alive_of buf form value ≡ written (take n s) buf

@@ -17,6 +17,8 @@ use Rattle.frame.specs.Entry.{least_entry, context_count, parameter_offset, well
 use Rattle.frame.proofs.Entries.{entry_at_lem, entries_first, one_size, well_kind, offset_other, least_command_lem, least_response_lem}
 use Rattle.fields.specs.Place.{parameters_of, context_of}
 use Rattle.fields.specs.Fields.{method_at, command_of, notification_of, response_of}
+use Rattle.std.specs.Prelude.{Result, Ok}
+use Rattle.numbers.specs.declared.Refusal.{Refusal}
 use Rattle.reader.specs.Numbers.{entry_numbers}
 use Rattle.reader.specs.Entry.{fields_of}
 use Rattle.reader.specs.declared.Entry.{Entry}
@@ -112,19 +114,19 @@ module _ (e : List ℕ) (o : Octets e) where
         ∙ sized least_response h _
 
 -- the answer that reading an entry of that type gives
-pub answer_of : ℕ → List ℕ → Entry
+pub answer_of : ℕ → List ℕ → Result Entry Refusal
 answer_of kind e =
-    cond (ltb kind notification) (entry.Command (command_of e))
-    (cond (eqb kind notification) (entry.Notification (notification_of e)) (entry.Response (response_of e)))
+    cond (ltb kind notification) (Ok (entry.Command (command_of e)))
+    (cond (eqb kind notification) (Ok (entry.Notification (notification_of e))) (Ok (entry.Response (response_of e))))
 
 pub answer_numbers : (kind : ℕ) (e : List ℕ) → entry_numbers (answer_of kind e) ≡ fields_of kind e
 unfolding answer_of fields_of entry_numbers
 answer_numbers kind e = go (ltb kind notification) (eqb kind notification)
   where
     go : (a b : Bool)
-        → entry_numbers (cond a (entry.Command (command_of e)) (cond b (entry.Notification (notification_of e)) (entry.Response (response_of e))))
-        ≡ cond a (entry_numbers (entry.Command (command_of e)))
-        (cond b (entry_numbers (entry.Notification (notification_of e))) (entry_numbers (entry.Response (response_of e))))
+        → entry_numbers (cond a (Ok (entry.Command (command_of e))) (cond b (Ok (entry.Notification (notification_of e))) (Ok (entry.Response (response_of e)))))
+        ≡ cond a (entry_numbers (Ok (entry.Command (command_of e))))
+        (cond b (entry_numbers (Ok (entry.Notification (notification_of e)))) (entry_numbers (Ok (entry.Response (response_of e)))))
     go true b = refl
     go false true = refl
     go false false = refl
@@ -152,7 +154,7 @@ answer_laid kind e w = let z = entry_sized kind e w.well in sym (go (ltb kind no
   where
     go : (a b : Bool) → ltb kind notification ≡ a → eqb kind notification ≡ b → be32_at e 0 ≡ length e → parameter_offset kind e ≤ length e
         → e
-        ≡ entry_again (cond a (entry.Command (command_of e)) (cond b (entry.Notification (notification_of e)) (entry.Response (response_of e))))
+        ≡ entry_again (cond a (Ok (entry.Command (command_of e))) (cond b (Ok (entry.Notification (notification_of e))) (Ok (entry.Response (response_of e)))))
         (context_of kind e) (drop (parameter_offset kind e) e)
     go true b p q z h =
         let k = ltb-true kind notification p in
@@ -168,10 +170,10 @@ answer_laid kind e w = let z = entry_sized kind e w.well in sym (go (ltb kind no
         rw o (response_laid e w.bytes z (omega (arith, o)))
 
 -- and from any answer with its numbers
-pub entry_laid_lem : (kind : ℕ) (e : List ℕ) → EntryOf kind e → (r : Entry) → entry_numbers r ≡ fields_of kind e → entry_again r (context_of kind e) (parameters_of kind e) ≡ e
+pub entry_laid_lem : (kind : ℕ) (e : List ℕ) → EntryOf kind e → (r : Result Entry Refusal) → entry_numbers r ≡ fields_of kind e → entry_again r (context_of kind e) (parameters_of kind e) ≡ e
 entry_laid_lem kind e w r h =
     let q = numbers_tell.entries r (answer_of kind e) (h ∙ sym (answer_numbers kind e)) in
-    ap (λ (x : Entry). entry_again x (context_of kind e) (parameters_of kind e)) q ∙ answer_laid kind e w
+    ap (λ (x : Result Entry Refusal). entry_again x (context_of kind e) (parameters_of kind e)) q ∙ answer_laid kind e w
 
 pub entries_told : (kind : ℕ) (e f : List ℕ) → EntryOf kind e → EntryOf kind f → fields_of kind e ≡ fields_of kind f
     → context_of kind e ≡ context_of kind f → parameters_of kind e ≡ parameters_of kind f → e ≡ f

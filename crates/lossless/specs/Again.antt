@@ -1,11 +1,12 @@
 -- R9, R20, R21. An entry's bytes again, from what the reader's public calls answered: nothing else of the message is used.
-use Rattle.std.specs.Prelude.{ℕ, ◌+◌, ◌<◌, ◌≡◌, List, [], ◌∷◌, ◌++◌, length, get_or}
+use Rattle.std.specs.Prelude.{ℕ, ◌+◌, ◌<◌, ◌≡◌, List, [], ◌∷◌, ◌++◌, Result, Ok, Err, length, get_or}
 use Rattle.octets.specs.Numbers.{bytes16, bytes32}
 use Rattle.frame.specs.Limits.{least_command, least_notification, least_response}
 use Rattle.fields.specs.declared.CommandFields.{CommandFields}
 use Rattle.fields.specs.declared.NotificationFields.{NotificationFields}
 use Rattle.fields.specs.declared.ResponseFields.{ResponseFields}
 use Rattle.numbers.specs.Refusal.{not_refused}
+use Rattle.numbers.specs.declared.Refusal.{Refusal}
 use Rattle.reader.specs.Read.{read_of}
 use Rattle.reader.specs.Entry.{ReadsEntry, GivesPart}
 use Rattle.reader.specs.Context.{GivesContext}
@@ -31,17 +32,15 @@ unfoldable pub response_again : ResponseFields → List ℕ → List ℕ
 response_again r part = bytes32 (least_response + length part) ++ (bytes32 r.handle ++ (r.status ∷ r.count ∷ part))
 
 -- R9, R20. An entry's bytes from its answer, its context and its part; none from a refusal.
-unfoldable pub entry_again : Entry → List ℕ → List ℕ → List ℕ
-entry_again (entry.Command c) context part = command_again c part
-entry_again (entry.Notification n) context part = notification_again n context part
-entry_again (entry.Response r) context part = response_again r part
-entry_again (entry.Fault f) context part = []
-entry_again entry.Short context part = []
-entry_again entry.NoEntry context part = []
+unfoldable pub entry_again : Result Entry Refusal → List ℕ → List ℕ → List ℕ
+entry_again (Ok (entry.Command c)) context part = command_again c part
+entry_again (Ok (entry.Notification n)) context part = notification_again n context part
+entry_again (Ok (entry.Response r)) context part = response_again r part
+entry_again (Err e) context part = []
 
 -- R20, R21. The bytes e come from what reading entry i of s, its context and its part answered.
 pub record Rebuilt (s : List ℕ) (i : ℕ) (e : List ℕ) : Type 0 where
-  pub answer : Entry
+  pub answer : Result Entry Refusal
   pub context : List ℕ
   pub part : List ℕ
   pub entry : ReadsEntry s i answer

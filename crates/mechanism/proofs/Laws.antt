@@ -1,37 +1,22 @@
 -- The mechanism's tests, case by case. Assumes nothing.
-use Prim.Native.Nat.{ℕ, ◌+◌, ◌-◌, ◌<◌, ◌≤◌}
-use mathlib.Core.Path.{◌≡◌, sym, ap, ◌∙◌}
+use Prim.Native.Nat.{ℕ, ◌+◌, ◌-◌, ◌<◌}
+use mathlib.Core.Path.{◌≡◌, refl, sym, ap, ◌∙◌}
 use mathlib.Core.Bool.{Bool, true, false, cond, not, ◌&&◌, ◌||◌}
 use mathlib.Core.List.{List, ◌++◌}
 use native.Mathlib.Omega.{arith}
 use borrow.Author.Tests.{ne_eqb, eqb-true, not-false}
 use lib.Dec.{eqb}
-use lib.ListN.{length, take, drop, replicate, length-take, length-drop, take-append-drop}
-use lib.Seq.{sets, take_all}
-use Rattle.laws.proofs.Stores.{sets_all}
+use lib.ListN.{length, take, drop, length-take, take-append-drop}
 use Rattle.octets.specs.Numbers.{be16_at}
 use Rattle.octets.specs.Zeros.{all_zero}
 use Rattle.octets.specs.Same.{same_bytes}
 use Rattle.octets.proofs.Scans.{and_false, and_assoc}
 use Rattle.octets.proofs.Sames.{same_append, same_long}
-use Rattle.dotted.specs.Text.{dotted_of}
-use Rattle.dotted.specs.declared.Dotted.{Dotted}
-use Rattle.mechanism.specs.State.{no_address, disarmed}
-use Rattle.mechanism.specs.Arguments.{key_in, text_in, port_in, is_misfit, is_multicast, is_group, is_text_taken, address_of, is_untaken, armed_by, arming_of}
+use Rattle.std.proofs.Common.{Some, None}
+use Rattle.mechanism.specs.Arguments.{address_taken, mechanism_in, key_in, text_in, port_in, is_misfit, is_multicast, is_text_taken, address_of, is_untaken, armed_by, arming_of}
 use Rattle.mechanism.specs.Obeys.{is_address_taken, mechanism_obeys}
 use Rattle.mechanism.specs.Datagram.{sentinel, resets}
 use Rattle.mechanism.specs.declared.Mechanism.{Mechanism}
-use Rattle.mechanism.specs.declared.Arming.{Arming}
-
--- ---- whole arrays, lent as parts
-pub same_whole : (g l : List ℕ) (n : ℕ) (b : Bool) → length l ≡ n → b ≡ same_bytes g (take n l) → b ≡ same_bytes g l
-same_whole g l n b e q = rw (take_all n l (omega arith)) at q
-
-pub key_copied : (part key : List ℕ) → 16 ≤ length part → key ≡ sets (replicate 16 0) 0 (take 16 part) → key ≡ key_in part
-unfolding key_in
-key_copied part key h e =
-    let k : length (take 16 part) ≡ 16 = simp length-take (omega arith) in
-    e ∙ sets_all (take 16 part) (replicate 16 0) k
 
 -- ---- the length of the arguments
 pub misfit_short : (part : List ℕ) → length part < 20 → true ≡ is_misfit part
@@ -47,33 +32,36 @@ unfolding is_misfit
 fitting part f = eqb-true _ _ (not-false _ f)
 
 -- ---- what they arm
-module _ (part : List ℕ) (f : is_misfit part ≡ false) (k p : ℕ) (d : Dotted) (g : Bool) (ek : k ≡ be16_at part 16) (ep : p ≡ be16_at part (18 + k)) (ed : d ≡ dotted_of (take (18 + k - 18) (drop 18 part))) (eg : g ≡ is_group d) where
-  text_is : take (18 + k - 18) (drop 18 part) ≡ text_in part
+module _ (part : List ℕ) (f : is_misfit part ≡ false) where
+  -- the text stands before the last two bytes, and they are the port
+  pub text_is : take (length part - 2 - 18) (drop 18 part) ≡ text_in part
   unfolding text_in
-  text_is = let q : 18 + k - 18 ≡ k = omega arith in rw (q, ek)
+  text_is = let q : length part - 2 - 18 ≡ be16_at part 16 = omega (arith, fitting part f) in rw q
 
-  text_long : length (text_in part) ≡ k
-  unfolding text_in
-  text_long = let l = fitting part f in simp (length-take, length-drop) (omega arith)
-
-  dotted_is : d ≡ dotted_of (text_in part)
-  dotted_is = ed ∙ ap dotted_of text_is
-
-  port_is : p ≡ port_in part
+  pub port_is : be16_at part (length part - 2) ≡ port_in part
   unfolding port_in
-  port_is = ep ∙ ap (λ (j : ℕ). be16_at part (18 + j)) ek
+  port_is = let q : length part - 2 ≡ 18 + be16_at part 16 = omega (arith, fitting part f) in rw q
 
-  untaken_is : (not (eqb k 0 || g) || eqb p 0) ≡ is_untaken part
-  unfolding is_untaken is_text_taken
-  untaken_is = rw (text_long, ← dotted_is, ← port_is, ← eg)
+  pub text_untaken : None ≡ address_taken (take (length part - 2 - 18) (drop 18 part)) → None ≡ mechanism_in (arming_of part)
+  unfolding arming_of is_untaken
+  text_untaken n = go (is_text_taken (text_in part)) refl (n ∙ ap address_taken text_is)
+    where
+      go : (b : Bool) → is_text_taken (text_in part) ≡ b → None ≡ cond b (Some (address_of (text_in part))) None → None ≡ mechanism_in (arming_of part)
+      go true e n = cc
+      go false e n = rw e
 
-  pub arms_not : (not (eqb k 0 || g) || eqb p 0) ≡ true → ◌≡◌ {A = Arming} (record { taken = false; mechanism = disarmed }) (arming_of part)
-  unfolding arming_of
-  arms_not t = rw (← untaken_is, t)
-
-  pub arms : (not (eqb k 0 || g) || eqb p 0) ≡ false → (key address : List ℕ) → key ≡ key_in part → address ≡ cond (eqb k 0) no_address d.address → ◌≡◌ {A = Arming} (record { taken = true; mechanism = record { armed = true; key = key; address = address; port = p } }) (arming_of part)
-  unfolding arming_of armed_by address_of
-  arms t key address e a = rw (← untaken_is, t, text_long, ← dotted_is, ← port_is, ← e, ← a)
+  pub arms : (address : List ℕ) (port : ℕ) → Some address ≡ address_taken (take (length part - 2 - 18) (drop 18 part)) → port ≡ be16_at part (length part - 2)
+      → mechanism_in (arming_of part) ≡ cond (eqb port 0) None (Some (record { armed = true; key = key_in part; address = address; port = port }))
+  unfolding arming_of is_untaken armed_by
+  arms address port n p = go (is_text_taken (text_in part)) refl (n ∙ ap address_taken text_is) (eqb port 0) refl
+    where
+      go : (b : Bool) → is_text_taken (text_in part) ≡ b → Some address ≡ cond b (Some (address_of (text_in part))) None
+          → (z : Bool) → eqb port 0 ≡ z → mechanism_in (arming_of part) ≡ cond z None (Some (record { armed = true; key = key_in part; address = address; port = port }))
+      go true e n true q = let w : port_in part ≡ port = sym port_is ∙ sym p in rw (w, e, q)
+      go true e n false q =
+          let w : port_in part ≡ port = sym port_is ∙ sym p in
+          let v : address_of (text_in part) ≡ address = cc in rw (w, e, q, v)
+      go false e n z q = cc
 
 -- ---- the rules
 module _ (m : Mechanism) (none : Bool) (en : none ≡ all_zero m.address) where
@@ -93,11 +81,10 @@ module _ (m : Mechanism) (datagram : List ℕ) (l : length m.key ≡ 16) where
       let k : (length datagram ≡ length (sentinel ++ m.key) → ⊥) = λ e. n (e ∙ rw l) in
       rw (← same_long datagram (sentinel ++ m.key) k) (sym (and_false m.armed))
 
-  pub resets_is : length datagram ≡ 24 → (a b : Bool) → a ≡ same_bytes (take 8 datagram) sentinel → b ≡ same_bytes (take 16 (drop 8 datagram)) m.key → (m.armed && a && b) ≡ resets m datagram
+  pub resets_is : length datagram ≡ 24 → (f k : List ℕ) → f ≡ take 8 datagram → k ≡ drop 8 datagram → (a b : Bool) → a ≡ same_bytes f sentinel → b ≡ same_bytes k m.key → (m.armed && a && b) ≡ resets m datagram
   unfolding resets
-  resets_is h a b ea eb =
+  resets_is h f k ef ek a b ea eb =
       let front : length (take 8 datagram) ≡ 8 = simp length-take (omega arith) in
-      let back : take 16 (drop 8 datagram) ≡ drop 8 datagram = take_all 16 (drop 8 datagram) (simp length-drop (omega arith)) in
       let joined : same_bytes datagram (sentinel ++ m.key) ≡ (same_bytes (take 8 datagram) sentinel && same_bytes (drop 8 datagram) m.key) =
       ap (λ (x : List ℕ). same_bytes x (sentinel ++ m.key)) (sym (take-append-drop 8 datagram)) ∙ same_append (take 8 datagram) sentinel (drop 8 datagram) m.key front in
-      sym (and_assoc m.armed a b) ∙ ap (λ (t : Bool). m.armed && t) (rw (ea, eb, back) (sym joined))
+      sym (and_assoc m.armed a b) ∙ ap (λ (t : Bool). m.armed && t) (rw (ea, eb, ef, ek) (sym joined))

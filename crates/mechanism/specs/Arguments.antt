@@ -1,11 +1,15 @@
 -- R71, R73. The arguments of 3.14, and what they arm.
 use Rattle.std.specs.Prelude.{ℕ, ◌+◌, Bool, true, false, cond, not, ◌&&◌, ◌||◌, List, eqb, leb, length, get_or, take, drop}
+use Rattle.std.specs.Prelude.{Option, Some, None}
 use Rattle.octets.specs.Numbers.{be16_at}
-use Rattle.dotted.specs.Text.{dotted_of}
-use Rattle.dotted.specs.declared.Dotted.{Dotted}
+use Rattle.dotted.specs.Text.{Dotted, dotted_of}
 use Rattle.mechanism.specs.State.{key_bytes, no_address, disarmed}
 use Rattle.mechanism.specs.declared.Mechanism.{Mechanism}
-use Rattle.mechanism.specs.declared.Arming.{Arming}
+
+-- R73. What 3.14 makes of its arguments.
+pub record Arming : Type 0 where
+  pub taken : Bool
+  pub mechanism : Mechanism
 
 -- R71. Where the text starts: behind the key and its own length.
 abbrev pub text_start : ℕ
@@ -61,3 +65,11 @@ arming_of part =
     cond (is_untaken part)
     (record { taken = false; mechanism = disarmed })
     (record { taken = true; mechanism = armed_by part })
+
+-- R73. The mechanism of arguments that are taken.
+abbrev pub mechanism_in : Arming → Option Mechanism
+mechanism_in a = cond a.taken (Some a.mechanism) None
+
+-- R73. The address of a text that 3.14 takes.
+abbrev pub address_taken : List ℕ → Option (List ℕ)
+address_taken text = cond (is_text_taken text) (Some (address_of text)) None

@@ -1,182 +1,130 @@
-// The reset mechanism: its key, address and port, the arguments that arm it, and the datagram that it heeds.
+//! The reset mechanism: its key, address and port, the arguments that arm it, and the datagram that it heeds.
 #![tactic(auto)]
 
-ghost use Rattle.std.specs.Prelude.{◌≡◌, cond, false, ◌≤◌, length};
-ghost use Rattle.octets.specs.Zeros.{all_zero};
-ghost use Rattle.octets.specs.Same.{same_bytes};
-ghost use Rattle.mechanism.specs.State.{no_address};
-ghost use Rattle.mechanism.specs.Arguments.{key_in, is_misfit, is_multicast, is_group, arming_of};
+ghost use Rattle.std.specs.Prelude.{◌≡◌, false, ◌≤◌, length};
+ghost use Rattle.mechanism.specs.Arguments.{key_in, is_misfit, is_multicast, address_taken, arming_of, mechanism_in};
 ghost use Rattle.mechanism.specs.Obeys.{mechanism_obeys};
 ghost use Rattle.mechanism.specs.Datagram.{resets};
 ghost use Rattle.mechanism.specs.Kept.{MechanismKept, ResetsExactly, AddressesTaken};
 
-use dotted::Dotted;
-
+/// Bytes of a key.
 pub const KEY: usize = 16;
 
-const ADDRESS: usize = 4;
-
-// The sentinel and the key.
+/// Bytes of a datagram that resets: the sentinel and the key.
 pub const DATAGRAM: usize = 24;
 
-const SENTINEL_END: usize = 8;
+const SENTINEL: &[u8; 8] = b"\xDE\xAF\xDA\xDA\xCA\xFE\xBA\xBE";
 
 // The key and the text's length, before the text.
 const TEXT: usize = 18;
 
+// The port, behind the text.
+const PORT: usize = 2;
+
 // The arguments of 3.14 but for the text.
-const BARE: usize = 20;
+const BARE: usize = TEXT + PORT;
 
 const FIRST_MULTICAST: u8 = 224;
 
 const LAST_MULTICAST: u8 = 239;
 
+/// The reset mechanism, all zero where it is not armed.
 #[repr(C)]
-#[derive(Clone, Copy)]
+#[derive(Clone, Copy, Debug, PartialEq, Eq)]
 pub struct Mechanism {
     pub armed: bool,
     pub key: [u8; 16],
-    // zeros where no text was given
+    /// Zeros where no text was given.
     pub address: [u8; 4],
+    /// Where the datagram is awaited: 0 only where the mechanism is not armed.
     pub port: u16,
 }
 
-// What 3.14 makes of its arguments.
-#[derive(Clone, Copy)]
-pub struct Arming {
-    pub taken: bool,
-    pub mechanism: Mechanism,
-}
-
-// The text's length field tells the length of the whole.
+/// Whether arguments of 3.14 are shorter or longer than the text's length field tells.
 #[tactic(auto, using(crate::proofs::Laws::misfit_short, crate::proofs::Laws::misfit_told))]
 pub fn is_misfit(part: &[u8]) -> bool
     ensures { result ≡ is_misfit part.now }
 {
-    if part.len() < BARE {
-        return true;
-    }
-    let text = octets::be16(part, KEY) as usize;
-    part.len() != BARE + text
+    part.len() < BARE || part.len() != BARE + octets::be16(part, KEY) as usize
 }
 
 #[tactic(auto, unfolding(crate::specs::Arguments::is_multicast))]
 fn is_multicast(address: [u8; 4]) -> bool
     ensures { result ≡ is_multicast address }
 {
-    let first = address[0];
-    (FIRST_MULTICAST <= first) & (first <= LAST_MULTICAST)
+    (FIRST_MULTICAST..=LAST_MULTICAST).contains(&address[0])
 }
 
-#[tactic(auto, unfolding(crate::specs::Arguments::is_group))]
-fn is_group(d: Dotted) -> bool
-    ensures { result ≡ is_group d }
-{
-    let address = d.address;
-    let multicast = is_multicast(address);
-    d.sound & multicast
-}
-
-#[tactic(auto, using(crate::proofs::Laws::key_copied))]
-fn key_in(part: &[u8]) -> [u8; 16]
+#[tactic(auto, unfolding(crate::specs::Arguments::key_in))]
+fn key_in(part: &[u8]) -> [u8; KEY]
     requires { 16 ≤ length part.now }
     ensures { result ≡ key_in part.now }
 {
-    let mut key = [0u8; 16];
-    octets::copy(&part[0..KEY], &mut key, 0);
+    let mut key = [0; KEY];
+    key.copy_from_slice(&part[..KEY]);
     key
 }
 
-fn address_of(none: bool, read: Dotted) -> [u8; 4]
-    ensures { result ≡ cond none no_address read.address }
+// The address of a text that 3.14 takes: zeros for the empty one, else a multicast address.
+#[tactic(auto, unfolding(crate::specs::Arguments::is_text_taken, crate::specs::Arguments::address_of, crate::specs::Arguments::is_group))]
+fn address_taken(text: &[u8]) -> Option<[u8; 4]>
+    ensures { result ≡ address_taken text.now }
 {
-    if none {
-        return [0u8; 4];
+    if text.is_empty() {
+        return Some([0; 4]);
     }
-    read.address
+    let address = dotted::read(text)?;
+    if is_multicast(address) {
+        Some(address)
+    } else {
+        None
+    }
 }
 
-// The mechanism that the arguments arm, if the text and the port are taken.
-#[tactic(auto, using(crate::proofs::Laws::fitting, crate::proofs::Laws::arms_not, crate::proofs::Laws::arms))]
-pub fn arming_of(part: &[u8]) -> Arming
+/// The mechanism that the arguments of 3.14 arm, or `None` where the text or the port is not taken.
+#[tactic(auto, using(crate::proofs::Laws::fitting))]
+pub fn arming_of(part: &[u8]) -> Option<Mechanism>
     requires { is_misfit part.now ≡ false }
-    ensures { result ≡ arming_of part.now }
+    ensures { result ≡ mechanism_in (arming_of part.now) }
 {
-    let length = octets::be16(part, KEY) as usize;
-    let end = TEXT + length;
+    let end = part.len() - PORT;
+    let address = address_taken(&part[TEXT..end])?;
     let port = octets::be16(part, end);
-    let read = dotted::read(&part[TEXT..end]);
-    let none = length == 0;
-    let group = is_group(read);
-    if !(none | group) | (port == 0) {
-        let mechanism = Mechanism::DISARMED;
-        return Arming {
-            taken: false,
-            mechanism,
-        };
+    if port == 0 {
+        return None;
     }
-    let key = key_in(part);
-    let address = address_of(none, read);
-    let mechanism = Mechanism {
+    Some(Mechanism {
         armed: true,
-        key,
+        key: key_in(part),
         address,
         port,
-    };
-    Arming {
-        taken: true,
-        mechanism,
-    }
-}
-
-#[tactic(auto, using(octets::proofs::Scans::zero_whole))]
-fn is_none(address: [u8; 4]) -> bool
-    ensures { result ≡ all_zero address }
-{
-    octets::all_zero(&address[0..ADDRESS])
-}
-
-#[tactic(auto, using(octets::proofs::Scans::zero_whole))]
-fn is_blank(key: [u8; 16]) -> bool
-    ensures { result ≡ all_zero key }
-{
-    octets::all_zero(&key[0..KEY])
-}
-
-// Every byte is looked at, wherever they differ.
-#[tactic(auto, using(crate::proofs::Laws::same_whole))]
-fn is_key(key: [u8; 16], given: &[u8]) -> bool
-    ensures { result ≡ same_bytes given.now key }
-{
-    octets::same(given, &key[0..KEY])
+    })
 }
 
 impl Mechanism {
+    /// Not armed, all zero.
     pub const DISARMED: Mechanism = Mechanism {
         armed: false,
-        key: [0u8; 16],
-        address: [0u8; 4],
+        key: [0; 16],
+        address: [0; 4],
         port: 0,
     };
 
-    // The record rules hold.
+    /// Whether the record rules hold: armed, an address that 3.14 would take and a port; else all zero.
     #[tactic(auto, using(crate::proofs::Laws::armed_obeys, crate::proofs::Laws::disarmed_obeys))]
     pub fn obeys(self) -> bool
         ensures { result ≡ mechanism_obeys self }
     {
-        let key = self.key;
-        let address = self.address;
-        let no_port = self.port == 0;
-        let none = is_none(address);
+        let none = octets::all_zero(&self.address);
         if self.armed {
-            let multicast = is_multicast(address);
-            return (none | multicast) & !no_port;
+            return (none | is_multicast(self.address)) & (self.port != 0);
         }
-        let blank = is_blank(key);
-        blank & none & no_port
+        let blank = octets::all_zero(&self.key);
+        blank & none & (self.port == 0)
     }
 
-    // The datagram is the sentinel and the key of a mechanism that is armed.
+    /// Whether the datagram is the sentinel and the key of a mechanism that is armed.
+    // The time taken tells nothing of how many bytes of the key were right.
     #[tactic(auto, using(crate::proofs::Laws::other_length, crate::proofs::Laws::resets_is))]
     pub fn resets(self, datagram: &[u8]) -> bool
         ensures { result ≡ resets self datagram.now }
@@ -184,12 +132,9 @@ impl Mechanism {
         if datagram.len() != DATAGRAM {
             return false;
         }
-        let key = self.key;
-        let marked = octets::same(
-            &datagram[0..SENTINEL_END],
-            b"\xDE\xAF\xDA\xDA\xCA\xFE\xBA\xBE",
-        );
-        let known = is_key(key, &datagram[SENTINEL_END..DATAGRAM]);
+        let (sentinel, key) = datagram.split_at(SENTINEL.len());
+        let marked = octets::same(sentinel, SENTINEL);
+        let known = octets::same(key, &self.key);
         self.armed & marked & known
     }
 }

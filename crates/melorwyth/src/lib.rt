@@ -1,26 +1,29 @@
-// What C is handed: the structs of every call, and the calls that are lent no record.
+//! What C is handed: the structs of every call, and the calls that are lent no record.
 #![tactic(auto)]
 
-ghost use Rattle.std.specs.Prelude.{◌≡◌, ◌<◌};
-ghost use Rattle.numbers.specs.Kind.{kind_closed};
+ghost use Rattle.std.specs.Prelude.{◌≡◌};
+ghost use Rattle.answers.specs.Numbers.{numbers_of, answer_numbers, delivery_numbers, taking_numbers};
 ghost use Rattle.melorwyth.specs.Answers.{fault_in, length_in};
 ghost use Rattle.melorwyth.specs.Promises.{VersionHands, FreshHands, ClearHands, HandedTell};
 ghost use Rattle.melorwyth.specs.Told.{NumbersTold};
 
-use answers::Numbers;
+use answers::{Delivery, Taking};
 use endpoint::Record;
+use numbers::Refusal;
 
 pub mod messages;
 
-// 0.1.0, as the header has it: a byte for each number
+/// 0.1.0, as the header has it: a byte for each number.
 pub const VERSION: u32 = 256;
 
+/// What clear hands C.
 #[repr(C)]
 #[derive(Clone, Copy)]
 pub struct Cleared {
     pub number: u8,
 }
 
+/// What open hands C; `number` is 0 or the refusal, and then the record is as it was passed.
 #[repr(C)]
 #[derive(Clone, Copy)]
 pub struct Opened {
@@ -29,6 +32,7 @@ pub struct Opened {
     pub connection: u8,
 }
 
+/// What close hands C, as for `Opened`.
 #[repr(C)]
 #[derive(Clone, Copy)]
 pub struct Closed {
@@ -36,87 +40,108 @@ pub struct Closed {
     pub number: u8,
 }
 
+/// What tick hands C, as for `Opened`.
 #[repr(C)]
 #[derive(Clone, Copy)]
 pub struct Ticked {
     pub state: Record,
     pub number: u8,
-    // bit n is set for connection n closed
+    /// Bit n is set for connection n closed.
     pub closed: u8,
 }
 
+/// What deliver hands C, as for `Opened`.
 #[repr(C)]
 #[derive(Clone, Copy)]
 pub struct Delivered {
     pub state: Record,
     pub number: u8,
-    // 1 more needed, 2 a message, 3 closed
+    /// 1 more needed, 2 a message, 3 closed.
     pub kind: u8,
     pub fault: u8,
     pub taken: usize,
     pub length: usize,
 }
 
+/// What take hands C, as for `Opened`.
 #[repr(C)]
 #[derive(Clone, Copy)]
 pub struct Taken {
     pub state: Record,
     pub number: u8,
-    // 0 nothing, 1 a notification, 2 a keep-alive
+    /// 0 nothing, 1 a notification, 2 a keep-alive.
     pub kind: u8,
     pub connection: u8,
     pub length: usize,
 }
 
+/// What a datagram hands C, as for `Opened`.
 #[repr(C)]
 #[derive(Clone, Copy)]
 pub struct Reset {
     pub state: Record,
     pub number: u8,
-    // 1 if the device was reset
+    /// 1 if the device was reset.
     pub reset: u8,
 }
 
-// The third number of a delivery: a closure's fault, or the length of a message's reply.
-#[tactic(auto, using(laws::proofs::Conds::tests), unfolding(crate::specs::Answers::fault_in))]
-pub fn fault_in(told: Numbers) -> u8
-    requires { told.first ≡ kind_closed → told.third < 256 }
-    ensures { result ≡ fault_in told }
+/// The fault that a delivery closed its connection for, else 0.
+#[tactic(auto, using(crate::proofs::Tellings::no_fault), unfolding(answers::specs::Numbers::numbers_of, crate::specs::Answers::fault_in))]
+pub fn fault_of(answer: Result<Delivery, Refusal>) -> u8
+    ensures { result ≡ fault_in (numbers_of (answer_numbers delivery_numbers answer)) }
 {
-    if told.first == numbers::KIND_CLOSED {
-        return told.third as u8;
+    match answer {
+        Ok(Delivery::Closed(_, fault)) => fault.number(),
+        Ok(_) => 0,
+        Err(_) => 0,
     }
-    0
 }
 
-#[tactic(auto, using(laws::proofs::Conds::tests), unfolding(crate::specs::Answers::length_in))]
-pub fn length_in(told: Numbers) -> usize
-    ensures { result ≡ length_in told }
+/// The length in bytes of the reply to a delivered message, else 0.
+#[tactic(auto, using(crate::proofs::Tellings::no_length), unfolding(answers::specs::Numbers::numbers_of, crate::specs::Answers::length_in))]
+pub fn length_of(answer: Result<Delivery, Refusal>) -> usize
+    ensures { result ≡ length_in (numbers_of (answer_numbers delivery_numbers answer)) }
 {
-    if told.first == numbers::KIND_MESSAGE {
-        return told.third;
+    match answer {
+        Ok(Delivery::Message(_, length)) => length,
+        Ok(_) => 0,
+        Err(_) => 0,
     }
-    0
 }
 
+/// The connection that a taken message is for, else 0.
+#[tactic(auto, using(crate::proofs::Tellings::no_second), unfolding(answers::specs::Numbers::numbers_of))]
+pub fn connection_of(answer: Result<Taking, Refusal>) -> u8
+    ensures { result ≡ (numbers_of (answer_numbers taking_numbers answer)).second }
+{
+    match answer {
+        Ok(Taking::Notification(n, _)) => n,
+        Ok(Taking::KeepAlive(n, _)) => n,
+        Ok(Taking::Nothing) => 0,
+        Err(_) => 0,
+    }
+}
+
+/// The version of the library: the first number times 65,536, the second times 256, the third.
 pub fn melorwyth_version() -> u32
     ensures { VersionHands result }
 {
     VERSION
 }
 
+/// The fresh record, at a first reading of the host's counter in milliseconds.
 pub fn melorwyth_fresh(reading: u32) -> Record
     ensures { FreshHands reading result }
 {
     Record::fresh(reading)
 }
 
+/// An area of 16,392 bytes is zeroed; refused by 2 at another length.
 #[tactic(auto, unfolding(crate::specs::Answers::cleared_of))]
 pub fn melorwyth_clear(area: &mut [u8]) -> Cleared
     ensures { ClearHands area.old result area.new }
 {
-    let answer = endpoint::clear_area(area);
-    let told = answer.numbers();
+    let told = answers::numbers_told(endpoint::clear_area(area));
     Cleared {
         number: told.number,
     }

@@ -1,6 +1,6 @@
-// The reader and the writer for C.
-ghost use Rattle.std.specs.Prelude.{◌≡◌, ◌∷◌};
-ghost use Rattle.numbers.specs.Refusal.{not_refused};
+//! The reader and the writer for C.
+ghost use Rattle.std.specs.Prelude.{◌≡◌, ◌∷◌, get_or};
+ghost use Rattle.numbers.specs.Refusal.{not_refused, refusal_numbers};
 ghost use Rattle.reader.specs.Numbers.{message_numbers, reading_numbers, command_numbers, notification_numbers, entry_numbers};
 ghost use Rattle.writer.specs.Numbers.{written_numbers};
 ghost use Rattle.melorwyth.specs.Messages.{reading_with, reading_of, plain_with, entry_from, written_with, written_of};
@@ -8,28 +8,40 @@ ghost use Rattle.melorwyth.specs.Promises.{ReadingHands, EntryHands, PartHands, 
 ghost use Rattle.melorwyth.specs.Promises.{StartHands, AppendHands, KeepAliveHands};
 
 use fields::{CommandFields, NotificationFields};
+use numbers::Refusal;
 use reader::Message;
 
+const NOT_REFUSED: u8 = 0;
+
+/// A message, or a refusal.
 #[repr(C)]
-#[derive(Clone, Copy)]
+#[derive(Clone, Copy, Debug, PartialEq, Eq)]
 pub struct Reading {
+    /// 0, or the refusal's number.
     pub number: u8,
+    /// The fault behind refusal 8, else 0.
     pub fault: u8,
-    // the message's type
+    /// The message's type.
     pub kind: u8,
+    /// Its messageCount.
     pub count: u16,
-    // a keep-alive's form and value, else 0
+    /// A keep-alive's form, else 0.
     pub form: u8,
+    /// A keep-alive's value in that form's unit, else 0.
     pub value: u32,
+    /// The message's length, its 3B counted.
     pub length: usize,
 }
 
+/// An entry's fields, or a refusal; a field that the entry has not is 0.
 #[repr(C)]
-#[derive(Clone, Copy)]
+#[derive(Clone, Copy, Debug, PartialEq, Eq)]
 pub struct Entry {
+    /// 0, or the refusal's number.
     pub number: u8,
+    /// The fault behind refusal 8, else 0.
     pub fault: u8,
-    // 0 a command of either type, 2 a notification, 3 a response
+    /// 0 a command of either type, 2 a notification, 3 a response.
     pub kind: u8,
     pub handle: u32,
     pub target: u32,
@@ -43,19 +55,34 @@ pub struct Entry {
     pub event_index: u16,
 }
 
+/// Where a part stands in the bytes that were lent.
 #[repr(C)]
-#[derive(Clone, Copy)]
+#[derive(Clone, Copy, Debug, PartialEq, Eq)]
 pub struct Part {
     pub start: usize,
     pub length: usize,
 }
 
+/// The length of what was written, or a refusal.
 #[repr(C)]
-#[derive(Clone, Copy)]
+#[derive(Clone, Copy, Debug, PartialEq, Eq)]
 pub struct Written {
+    /// 0, or the refusal's number.
     pub number: u8,
+    /// The fault behind refusal 8, else 0.
     pub fault: u8,
+    /// The message's length, its 3B counted.
     pub length: usize,
+}
+
+// The fault that is told behind a refusal's number, else 0.
+fn fault_behind(refusal: Refusal) -> u8
+    ensures { result ≡ get_or (refusal_numbers refusal) 1 0 }
+{
+    match refusal {
+        Refusal::Fault(fault) => fault.number(),
+        _ => 0,
+    }
 }
 
 fn unread(number: u8, fault: u8) -> Reading
@@ -72,69 +99,55 @@ fn unread(number: u8, fault: u8) -> Reading
     }
 }
 
-fn read(kind: u8, count: u16, form: u8, value: u32, length: usize) -> Reading
-    ensures { result ≡ reading_with not_refused 0 kind count form value length }
+#[tactic(auto, unfolding(reader::specs::Numbers::message_numbers, reader::specs::Numbers::heartbeat_numbers, crate::specs::Messages::reading_of))]
+fn of_message(message: Message, length: usize) -> Reading
+    ensures { result ≡ reading_of (not_refused ∷ length ∷ message_numbers message) }
 {
+    let (form, value) = match message {
+        Message::KeepAlive(beat) => (beat.form(), beat.value()),
+        _ => (0, 0),
+    };
     Reading {
-        number: numbers::NOT_REFUSED,
+        number: NOT_REFUSED,
         fault: 0,
-        kind,
-        count,
+        kind: message.kind(),
+        count: message.count(),
         form,
         value,
         length,
     }
 }
 
-#[tactic(auto, unfolding(reader::specs::Numbers::message_numbers, reader::specs::Numbers::heartbeat_numbers, crate::specs::Messages::reading_of))]
-fn of_message(message: Message, length: usize) -> Reading
-    ensures { result ≡ reading_of (not_refused ∷ length ∷ message_numbers message) }
-{
-    match message {
-        Message::Command(count) => read(frame::COMMAND, count, 0, 0, length),
-        Message::CommandWantingReply(count) => read(
-            frame::COMMAND_WANTING_REPLY,
-            count,
-            0,
-            0,
-            length,
-        ),
-        Message::Notification(count) => read(frame::NOTIFICATION, count, 0, 0, length),
-        Message::Response(count) => read(frame::RESPONSE, count, 0, 0, length),
-        Message::KeepAlive(beat) => read(frame::KEEP_ALIVE, 1, beat.form(), beat.value(), length),
-    }
-}
+impl From<Result<reader::Reading, Refusal>> for Reading {
+    ghost from_gives = { λ answer told. told ≡ reading_of (reading_numbers answer) };
 
-#[tactic(auto, unfolding(reader::specs::Numbers::reading_numbers, crate::specs::Messages::reading_of))]
-fn of_reading(answer: reader::Reading) -> Reading
-    ensures { result ≡ reading_of (reading_numbers answer) }
-{
-    match answer {
-        reader::Reading::Read(message, length) => of_message(message, length),
-        reader::Reading::Fault(fault) => unread(numbers::FAULT, fault),
-        reader::Reading::Short => unread(numbers::SHORT, 0),
+    #[tactic(auto, using(crate::proofs::Tellings::reading_refused), unfolding(reader::specs::Numbers::reading_numbers))]
+    fn from(answer: Result<reader::Reading, Refusal>) -> Reading {
+        match answer {
+            Ok(reading) => of_message(reading.message, reading.length),
+            Err(refusal) => unread(refusal.number(), fault_behind(refusal)),
+        }
     }
 }
 
 pub fn melorwyth_read_message(bytes: &[u8]) -> Reading
     ensures { ReadingHands bytes.now result }
 {
-    of_reading(reader::read_message(bytes))
+    reader::read_message(bytes).into()
 }
 
 #[tactic(auto, unfolding(reader::specs::Numbers::command_numbers, crate::specs::Messages::command_from, crate::specs::Messages::entry_from))]
 fn of_command(c: CommandFields) -> Entry
     ensures { result ≡ entry_from (not_refused ∷ command_numbers c) }
 {
-    let method = c.method;
     Entry {
-        number: numbers::NOT_REFUSED,
+        number: NOT_REFUSED,
         fault: 0,
         kind: frame::COMMAND,
         handle: c.handle,
         target: c.target,
-        level: method.level,
-        index: method.index,
+        level: c.method.level,
+        index: c.method.index,
         count: c.count,
         status: 0,
         context_count: 0,
@@ -148,22 +161,20 @@ fn of_command(c: CommandFields) -> Entry
 fn of_notification(n: NotificationFields) -> Entry
     ensures { result ≡ entry_from (not_refused ∷ notification_numbers n) }
 {
-    let method = n.method;
-    let event = n.event;
     Entry {
-        number: numbers::NOT_REFUSED,
+        number: NOT_REFUSED,
         fault: 0,
         kind: frame::NOTIFICATION,
         handle: 0,
         target: n.target,
-        level: method.level,
-        index: method.index,
+        level: n.method.level,
+        index: n.method.index,
         count: n.count,
         status: 0,
         context_count: n.context_count,
         emitter: n.emitter,
-        event_level: event.level,
-        event_index: event.index,
+        event_level: n.event.level,
+        event_index: n.event.index,
     }
 }
 
@@ -188,31 +199,31 @@ fn plain(number: u8, fault: u8, kind: u8, handle: u32, status: u8, count: u8) ->
     }
 }
 
-#[tactic(auto, unfolding(reader::specs::Numbers::entry_numbers, reader::specs::Numbers::response_numbers, crate::specs::Messages::entry_from))]
-fn of_entry(answer: reader::Entry) -> Entry
-    ensures { result ≡ entry_from (entry_numbers answer) }
-{
-    match answer {
-        reader::Entry::Command(c) => of_command(c),
-        reader::Entry::Notification(n) => of_notification(n),
-        reader::Entry::Response(r) => plain(
-            numbers::NOT_REFUSED,
-            0,
-            frame::RESPONSE,
-            r.handle,
-            r.status,
-            r.count,
-        ),
-        reader::Entry::Fault(fault) => plain(numbers::FAULT, fault, 0, 0, 0, 0),
-        reader::Entry::Short => plain(numbers::SHORT, 0, 0, 0, 0, 0),
-        reader::Entry::NoEntry => plain(numbers::NO_ENTRY, 0, 0, 0, 0, 0),
+impl From<Result<reader::Entry, Refusal>> for Entry {
+    ghost from_gives = { λ answer told. told ≡ entry_from (entry_numbers answer) };
+
+    #[tactic(auto, using(crate::proofs::Tellings::entry_refused), unfolding(reader::specs::Numbers::entry_numbers, reader::specs::Numbers::response_numbers, crate::specs::Messages::entry_from))]
+    fn from(answer: Result<reader::Entry, Refusal>) -> Entry {
+        match answer {
+            Ok(reader::Entry::Command(c)) => of_command(c),
+            Ok(reader::Entry::Notification(n)) => of_notification(n),
+            Ok(reader::Entry::Response(r)) => plain(
+                NOT_REFUSED,
+                0,
+                frame::RESPONSE,
+                r.handle,
+                r.status,
+                r.count,
+            ),
+            Err(refusal) => plain(refusal.number(), fault_behind(refusal), 0, 0, 0, 0),
+        }
     }
 }
 
 pub fn melorwyth_read_entry(bytes: &[u8], index: usize) -> Entry
     ensures { EntryHands bytes.now index result }
 {
-    of_entry(reader::read_entry(bytes, index))
+    reader::read_entry(bytes, index).into()
 }
 
 // Where the entry's part stands: `PartStands` of the reader says that the bytes there are the part.
@@ -249,16 +260,15 @@ fn put(number: u8, fault: u8, length: usize) -> Written
     }
 }
 
-#[tactic(auto, unfolding(writer::specs::Numbers::written_numbers, crate::specs::Messages::written_of))]
-fn of_written(answer: writer::Written) -> Written
-    ensures { result ≡ written_of (written_numbers answer) }
-{
-    match answer {
-        writer::Written::Length(length) => put(numbers::NOT_REFUSED, 0, length),
-        writer::Written::NoRoom => put(numbers::NO_ROOM, 0, 0),
-        writer::Written::Fault(fault) => put(numbers::FAULT, fault, 0),
-        writer::Written::TooLong => put(numbers::TOO_LONG, 0, 0),
-        writer::Written::BadEntry => put(numbers::BAD_ENTRY, 0, 0),
+impl From<Result<usize, Refusal>> for Written {
+    ghost from_gives = { λ answer told. told ≡ written_of (written_numbers answer) };
+
+    #[tactic(auto, using(crate::proofs::Tellings::written_refused), unfolding(writer::specs::Numbers::written_numbers, crate::specs::Messages::written_of))]
+    fn from(answer: Result<usize, Refusal>) -> Written {
+        match answer {
+            Ok(length) => put(NOT_REFUSED, 0, length),
+            Err(refusal) => put(refusal.number(), fault_behind(refusal), 0),
+        }
     }
 }
 
@@ -266,19 +276,19 @@ fn of_written(answer: writer::Written) -> Written
 pub fn melorwyth_start(buffer: &mut [u8], kind: u8, entry: &[u8]) -> Written
     ensures { StartHands buffer.old kind entry.now result buffer.new }
 {
-    of_written(writer::start(buffer, kind, entry))
+    writer::start(buffer, kind, entry).into()
 }
 
 #[tactic(auto, using(crate::proofs::Tellings::written_told))]
 pub fn melorwyth_append(buffer: &mut [u8], kind: u8, entry: &[u8]) -> Written
     ensures { AppendHands buffer.old kind entry.now result buffer.new }
 {
-    of_written(writer::append(buffer, kind, entry))
+    writer::append(buffer, kind, entry).into()
 }
 
 #[tactic(auto, using(crate::proofs::Tellings::written_told))]
 pub fn melorwyth_keep_alive(buffer: &mut [u8], form: u8, value: u32) -> Written
     ensures { KeepAliveHands buffer.old form value result buffer.new }
 {
-    of_written(writer::keep_alive(buffer, form, value))
+    writer::keep_alive(buffer, form, value).into()
 }

@@ -1,5 +1,7 @@
 -- R17. The faults of a message, by name.
 use Rattle.std.specs.Prelude.{ℕ, List, [], ◌∷◌}
+use Rattle.numbers.specs.declared.Fault.{Fault}
+use Rattle.numbers.specs.declared.Fault.TheVariants as fault
 
 -- R17. The first byte is not 3B.
 abbrev pub fault_start : ℕ
@@ -28,3 +30,12 @@ fault_data = 6
 -- R17. All of them, in order.
 abbrev pub faults : List ℕ
 faults = fault_start ∷ fault_version ∷ fault_size ∷ fault_type ∷ fault_count ∷ fault_data ∷ []
+
+-- R17. The number of a fault.
+abbrev pub fault_number : Fault → ℕ
+fault_number fault.Start = fault_start
+fault_number fault.Version = fault_version
+fault_number fault.Size = fault_size
+fault_number fault.Type = fault_type
+fault_number fault.Count = fault_count
+fault_number fault.Data = fault_data

@@ -1,5 +1,9 @@
 -- R63. The refusals of a call, by name.
 use Rattle.std.specs.Prelude.{ℕ, List, [], ◌∷◌}
+use Rattle.numbers.specs.Fault.{fault_number}
+use Rattle.numbers.specs.declared.Fault.{Fault}
+use Rattle.numbers.specs.declared.Refusal.{Refusal}
+use Rattle.numbers.specs.declared.Refusal.TheVariants as refusal
 
 -- R66. The first number of an answer that refuses nothing.
 abbrev pub not_refused : ℕ
@@ -52,3 +56,35 @@ no_entry = 12
 -- R63. All of them, in order; 7 is none.
 abbrev pub refusals : List ℕ
 refusals = bad_record ∷ bad_area ∷ no_connection ∷ no_room ∷ table_full ∷ clock_back ∷ fault ∷ short ∷ too_long ∷ bad_entry ∷ no_entry ∷ []
+
+-- R63. The number of a refusal.
+abbrev pub refusal_number : Refusal → ℕ
+refusal_number refusal.BadRecord = bad_record
+refusal_number refusal.BadArea = bad_area
+refusal_number refusal.NoConnection = no_connection
+refusal_number refusal.NoRoom = no_room
+refusal_number refusal.TableFull = table_full
+refusal_number refusal.ClockBack = clock_back
+refusal_number (refusal.Fault f) = fault
+refusal_number refusal.Short = short
+refusal_number refusal.TooLong = too_long
+refusal_number refusal.BadEntry = bad_entry
+refusal_number refusal.NoEntry = no_entry
+
+-- R66. What a refusal tells: its number, and a fault's behind 8.
+abbrev pub refusal_numbers : Refusal → List ℕ
+refusal_numbers refusal.BadRecord = bad_record ∷ []
+refusal_numbers refusal.BadArea = bad_area ∷ []
+refusal_numbers refusal.NoConnection = no_connection ∷ []
+refusal_numbers refusal.NoRoom = no_room ∷ []
+refusal_numbers refusal.TableFull = table_full ∷ []
+refusal_numbers refusal.ClockBack = clock_back ∷ []
+refusal_numbers (refusal.Fault f) = fault ∷ fault_number f ∷ []
+refusal_numbers refusal.Short = short ∷ []
+refusal_numbers refusal.TooLong = too_long ∷ []
+refusal_numbers refusal.BadEntry = bad_entry ∷ []
+refusal_numbers refusal.NoEntry = no_entry ∷ []
+
+-- R17, R63. A fault as the refusal of what reads it.
+abbrev pub fault_refusal : Fault → Refusal
+fault_refusal f = refusal.Fault f

@@ -1,5 +1,7 @@
 -- R40. The statuses of a command, by name, in the order in which they are tried.
 use Rattle.std.specs.Prelude.{ℕ, List, [], ◌∷◌}
+use Rattle.numbers.specs.declared.Status.{Status}
+use Rattle.numbers.specs.declared.Status.TheVariants as status
 
 -- R40. The target is no object.
 abbrev pub no_object : ℕ
@@ -46,3 +48,16 @@ abbrev pub statuses : List ℕ
 statuses =
     no_object ∷ no_method ∷ forbidden ∷ malformed ∷ held_by_other ∷ strange_emitter ∷ bad_value ∷ out_of_turn
     ∷ no_free_entry ∷ carried_out ∷ []
+
+-- R40. The number of a status.
+abbrev pub status_number : Status → ℕ
+status_number status.NoObject = no_object
+status_number status.NoMethod = no_method
+status_number status.Forbidden = forbidden
+status_number status.Malformed = malformed
+status_number status.HeldByOther = held_by_other
+status_number status.StrangeEmitter = strange_emitter
+status_number status.BadValue = bad_value
+status_number status.OutOfTurn = out_of_turn
+status_number status.NoFreeEntry = no_free_entry
+status_number status.CarriedOut = carried_out

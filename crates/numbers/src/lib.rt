@@ -1,157 +1,165 @@
-// The numbers of refusals, faults, kinds of answer and statuses, each once, by name.
+//! Refusals, faults, statuses and kinds of answer: each an enum, and its number in one place.
 #![tactic(auto)]
 
 ghost use Rattle.std.specs.Prelude.{◌≡◌};
-ghost use Rattle.numbers.specs.Refusal.{refusals};
-ghost use Rattle.numbers.specs.Fault.{faults};
-ghost use Rattle.numbers.specs.Kind.{kinds};
-ghost use Rattle.numbers.specs.Status.{statuses};
+ghost use Rattle.numbers.specs.Refusal.{refusal_number, fault_refusal};
+ghost use Rattle.numbers.specs.Fault.{fault_number};
+ghost use Rattle.numbers.specs.Status.{status_number};
 ghost use Rattle.numbers.specs.Table.{NumbersTable};
 
-pub const NOT_REFUSED: u8 = 0;
+use std::error::Error;
+use std::fmt;
 
-// The refusals of a call; 7 is none.
-pub const BAD_RECORD: u8 = 1;
-
-pub const BAD_AREA: u8 = 2;
-
-pub const NO_CONNECTION: u8 = 3;
-
-pub const NO_ROOM: u8 = 4;
-
-pub const TABLE_FULL: u8 = 5;
-
-pub const CLOCK_BACK: u8 = 6;
-
-pub const FAULT: u8 = 8;
-
-pub const SHORT: u8 = 9;
-
-pub const TOO_LONG: u8 = 10;
-
-pub const BAD_ENTRY: u8 = 11;
-
-pub const NO_ENTRY: u8 = 12;
-
-// The faults of a message.
-pub const FAULT_START: u8 = 1;
-
-pub const FAULT_VERSION: u8 = 2;
-
-pub const FAULT_SIZE: u8 = 3;
-
-pub const FAULT_TYPE: u8 = 4;
-
-pub const FAULT_COUNT: u8 = 5;
-
-pub const FAULT_DATA: u8 = 6;
-
-// The kinds of an answer that refuses nothing: of a delivery, a taking and a datagram.
-pub const KIND_MORE: u8 = 1;
-
-pub const KIND_MESSAGE: u8 = 2;
-
-pub const KIND_CLOSED: u8 = 3;
-
-pub const KIND_NOTHING: u8 = 0;
-
-pub const KIND_NOTIFICATION: u8 = 1;
-
-pub const KIND_KEEP_ALIVE: u8 = 2;
-
-pub const KIND_UNCHANGED: u8 = 0;
-
-pub const KIND_RESET: u8 = 1;
-
-// The statuses of a command, in the order in which they are tried.
-pub const NO_OBJECT: u8 = 5;
-
-pub const NO_METHOD: u8 = 11;
-
-pub const FORBIDDEN: u8 = 8;
-
-pub const MALFORMED: u8 = 4;
-
-pub const HELD_BY_OTHER: u8 = 3;
-
-pub const STRANGE_EMITTER: u8 = 6;
-
-pub const BAD_VALUE: u8 = 7;
-
-pub const OUT_OF_TURN: u8 = 9;
-
-pub const NO_FREE_ENTRY: u8 = 10;
-
-pub const CARRIED_OUT: u8 = 0;
-
-// The code's numbers are those of the definitions.
-pub fn refusals() -> [u8; 11]
-    ensures { result ≡ refusals }
-{
-    [
-        BAD_RECORD,
-        BAD_AREA,
-        NO_CONNECTION,
-        NO_ROOM,
-        TABLE_FULL,
-        CLOCK_BACK,
-        FAULT,
-        SHORT,
-        TOO_LONG,
-        BAD_ENTRY,
-        NO_ENTRY,
-    ]
+/// What is wrong with a message, in the order in which it is looked for.
+#[derive(Clone, Copy, Debug, PartialEq, Eq)]
+pub enum Fault {
+    /// The first byte is not 3B.
+    Start,
+    /// protocolVersion is not 1.
+    Version,
+    /// pduSize is below 9 or above 2,048.
+    Size,
+    /// pduType is above 4.
+    Type,
+    /// messageCount is 0, or not 1 in a keep-alive.
+    Count,
+    /// The data is no run of entries, or no heartbeat.
+    Data,
 }
 
-// So are the faults'.
-pub fn faults() -> [u8; 6]
-    ensures { result ≡ faults }
-{
-    [
-        FAULT_START,
-        FAULT_VERSION,
-        FAULT_SIZE,
-        FAULT_TYPE,
-        FAULT_COUNT,
-        FAULT_DATA,
-    ]
+/// Why a call is refused. The record and every lent buffer are then as they stood; no refusal has the number 7.
+#[derive(Clone, Copy, Debug, PartialEq, Eq)]
+pub enum Refusal {
+    /// A record rule is broken.
+    BadRecord,
+    /// The area has another length, or does not hold what the record counts.
+    BadArea,
+    /// The number is above 7, or that connection is not open.
+    NoConnection,
+    /// The output or the buffer is too small.
+    NoRoom,
+    /// No connection is free.
+    TableFull,
+    /// The step is 2^31 milliseconds or more.
+    ClockBack,
+    /// The bytes decide a fault.
+    Fault(Fault),
+    /// The bytes have no deciding byte.
+    Short,
+    /// pduSize would be above 2,048.
+    TooLong,
+    /// The entry or the heartbeat cannot be written.
+    BadEntry,
+    /// The message has no entry of that number.
+    NoEntry,
 }
 
-// And the kinds'.
-pub fn kinds() -> [u8; 8]
-    ensures { result ≡ kinds }
-{
-    [
-        KIND_MORE,
-        KIND_MESSAGE,
-        KIND_CLOSED,
-        KIND_NOTHING,
-        KIND_NOTIFICATION,
-        KIND_KEEP_ALIVE,
-        KIND_UNCHANGED,
-        KIND_RESET,
-    ]
+/// The status of a response, in the order in which it is tried.
+#[derive(Clone, Copy, Debug, PartialEq, Eq)]
+pub enum Status {
+    /// The target is no object.
+    NoObject,
+    /// The object has no such method.
+    NoMethod,
+    /// Lock or unlock of a manager.
+    Forbidden,
+    /// Wrong parameter count, length or last pair.
+    Malformed,
+    /// Another connection holds the mute's lock.
+    HeldByOther,
+    /// The emitter is no mute, or the event not 1.1.
+    StrangeEmitter,
+    /// A mode, a mute's value, a text or a port that is not taken.
+    BadValue,
+    /// Nothing to unlock or remove, or a subscription that is held already.
+    OutOfTurn,
+    /// All subscription entries are used.
+    NoFreeEntry,
+    /// The command was carried out.
+    CarriedOut,
 }
 
-// And the statuses'.
-pub fn statuses() -> [u8; 10]
-    ensures { result ≡ statuses }
-{
-    [
-        NO_OBJECT,
-        NO_METHOD,
-        FORBIDDEN,
-        MALFORMED,
-        HELD_BY_OTHER,
-        STRANGE_EMITTER,
-        BAD_VALUE,
-        OUT_OF_TURN,
-        NO_FREE_ENTRY,
-        CARRIED_OUT,
-    ]
+impl Fault {
+    pub fn number(self) -> u8
+        ensures { result ≡ fault_number self }
+    {
+        match self {
+            Fault::Start => 1,
+            Fault::Version => 2,
+            Fault::Size => 3,
+            Fault::Type => 4,
+            Fault::Count => 5,
+            Fault::Data => 6,
+        }
+    }
 }
 
-// Each name with its number.
+impl Refusal {
+    pub fn number(self) -> u8
+        ensures { result ≡ refusal_number self }
+    {
+        match self {
+            Refusal::BadRecord => 1,
+            Refusal::BadArea => 2,
+            Refusal::NoConnection => 3,
+            Refusal::NoRoom => 4,
+            Refusal::TableFull => 5,
+            Refusal::ClockBack => 6,
+            Refusal::Fault(_) => 8,
+            Refusal::Short => 9,
+            Refusal::TooLong => 10,
+            Refusal::BadEntry => 11,
+            Refusal::NoEntry => 12,
+        }
+    }
+}
+
+impl Status {
+    pub fn number(self) -> u8
+        ensures { result ≡ status_number self }
+    {
+        match self {
+            Status::NoObject => 5,
+            Status::NoMethod => 11,
+            Status::Forbidden => 8,
+            Status::Malformed => 4,
+            Status::HeldByOther => 3,
+            Status::StrangeEmitter => 6,
+            Status::BadValue => 7,
+            Status::OutOfTurn => 9,
+            Status::NoFreeEntry => 10,
+            Status::CarriedOut => 0,
+        }
+    }
+}
+
+impl From<Fault> for Refusal {
+    ghost from_gives = { λ f r. r ≡ fault_refusal f };
+
+    fn from(fault: Fault) -> Refusal {
+        Refusal::Fault(fault)
+    }
+}
+
+impl fmt::Display for Fault {
+    fn fmt<W: fmt::Write>(&self, f: &mut fmt::Formatter<W>) -> fmt::Result {
+        write!(f, "{}", self.number())
+    }
+}
+
+impl fmt::Display for Refusal {
+    fn fmt<W: fmt::Write>(&self, f: &mut fmt::Formatter<W>) -> fmt::Result {
+        match self {
+            Refusal::Fault(fault) => write!(f, "{} {fault}", self.number()),
+            _ => write!(f, "{}", self.number()),
+        }
+    }
+}
+
+impl Error for Refusal {}
+
+// Each name with its number; no two refusals tell the same, and none has 7.
+#[tactic(auto, using(crate::proofs::Tables::numbers_table))]
 pub fn numbers_table()
     ensures { NumbersTable }
 {}

@@ -2,7 +2,7 @@
 use Prim.Native.Nat.{ℕ, ◌+◌, ◌-◌, ◌<◌, ◌≤◌}
 use mathlib.Core.Path.{◌≡◌, refl, sym, ap, ◌∙◌}
 use mathlib.Core.Bool.{Bool, true, false, not, ◌&&◌, ◌||◌, or-false}
-use mathlib.Core.List.{List, [], ◌∷◌}
+use mathlib.Core.List.{List}
 use native.Mathlib.Omega.{arith}
 use borrow.Author.Tests.{leb-true, ltb-false, eq-eqb, ne_eqb, eqb-true, not-false}
 use lib.Dec.{leb, eqb}
@@ -10,9 +10,18 @@ use lib.ListN.{length, get_or}
 use Rattle.laws.proofs.Conds.{cond_right, and_left, and_right}
 use Rattle.laws.proofs.Tables.{or_neither}
 use Rattle.mechanism.specs.Arguments.{is_misfit}
-use Rattle.objects.specs.Methods.{is_mute, add_method, reset_key_method, place_of, is_object, is_telling, is_locking, is_muting, is_subscribing, has_method}
-use Rattle.objects.specs.Answers.{class_of, identification_of, answer_with}
-use Rattle.objects.specs.Tests.{is_forbidden, count_of, context_given, mode_given, length_of, is_length_bad, is_pair_bad, is_malformed, is_add_bad, first_status}
+use Rattle.numbers.specs.Status.{no_object, no_method, forbidden, malformed, carried_out, status_number}
+use Rattle.numbers.specs.declared.Status.{Status}
+use Rattle.std.proofs.Common.{◌≢◌, Result, Ok, Err}
+use Rattle.std.specs.Result.{IsErrAnd}
+use Rattle.objects.specs.declared.Method.{Method}
+use Rattle.objects.specs.declared.Method.TheVariants as method
+use Rattle.objects.specs.Methods.{method_of, is_mute, add_method, reset_key_method, place_of, is_object, is_telling, is_locking, is_muting, is_subscribing, has_method}
+use Rattle.objects.specs.Tests.{is_forbidden, count_of, context_given, mode_given, length_of, is_length_bad, is_pair_bad, is_malformed, is_add_bad, first_status, FirstStatus}
+use Rattle.octets.specs.Numbers.{bytes16}
+use Rattle.objects.specs.Answers.{identification_of, class_fields}
+use Rattle.objects.specs.declared.Class.{Class}
+use Rattle.objects.specs.declared.Class.TheVariants as class
 use Rattle.objects.specs.Scaffold.{Allowed}
 
 -- ---- a mute
@@ -28,38 +37,6 @@ mute_at_lem target h =
 pub place_is : (target : ℕ) → is_mute target ≡ true → (target - 4097 ≡ place_of target) × (target - 4097 < 8)
 unfolding place_of
 place_is target h = (refl, omega (arith, mute_at_lem target h))
-
--- ---- which object has which method
-only_muting : (x y z : Bool) → x ≡ ((x && true) || (y && false) || (z && false))
-only_muting true y z = refl
-only_muting false true true = refl
-only_muting false true false = refl
-only_muting false false true = refl
-only_muting false false false = refl
-
-only_managing : (x y z : Bool) → (y || z) ≡ ((x && false) || y || z)
-only_managing true y z = refl
-only_managing false y z = refl
-
-module _ (target m : ℕ) (a b : Bool) (p : a ≡ is_telling m) (q : b ≡ is_locking m) where
-  pub has_common : (a || b) ≡ true → true ≡ has_method target m
-  unfolding has_method
-  has_common h = rw (← p, ← q, h)
-
-  pub has_muting : (a || b) ≡ false → (c : Bool) → c ≡ is_mute target → c ≡ true → is_muting m ≡ has_method target m
-  unfolding has_method
-  has_muting h c r t =
-      let e = or_neither a b h in
-      let w = mute_at_lem target (sym r ∙ t) in
-      rw (← p, ← q, e.0, e.1, ← r, t, ne_eqb target 4 (λ z. omega (arith, w)), ne_eqb target 1 (λ z. omega (arith, w)))
-      (only_muting (is_muting m) (is_subscribing m) (eqb m reset_key_method))
-
-  pub has_managing : (a || b) ≡ false → (c : Bool) → c ≡ is_mute target → c ≡ false
-      → ((is_subscribing m && eqb target 4) || (eqb m reset_key_method && eqb target 1)) ≡ has_method target m
-  unfolding has_method
-  has_managing h c r t =
-      let e = or_neither a b h in
-      rw (← p, ← q, e.0, e.1, ← r, t) (only_managing (is_muting m) _ _)
 
 -- ---- the shape of the arguments
 module _ (part : List ℕ) where
@@ -117,29 +94,39 @@ formed_are m count part h =
     }
 
 -- ---- the first that applies of 5, 11, 8, 4
-module _ (t m count : ℕ) (part : List ℕ) (b : Bool) (q : b ≡ is_object t) where
-  pub first_object : not b ≡ true → 5 ≡ first_status t m count part
+module _ (t m count : ℕ) (part : List ℕ) where
+  pub first_object : false ≡ is_object t → no_object ≡ first_status t m count part
   unfolding first_status
-  first_object x = rw (← q, x)
+  first_object o = rw (← o)
 
-  module _ (x : not b ≡ false) (g : Bool) (p : g ≡ has_method t m) where
-    pub first_method : not g ≡ true → 11 ≡ first_status t m count part
-    unfolding first_status
-    first_method y = rw (← q, x, ← p, y)
+  -- no method has that number
+  pub first_unnamed : true ≡ is_object t → ((x : Method) → method_of x ≢ m) → no_method ≡ first_status t m count part
+  unfolding first_status has_method is_telling is_locking is_muting is_subscribing
+  first_unnamed o n =
+      let is : (x : Method) → eqb m (method_of x) ≡ false = λ (x : Method). ne_eqb m (method_of x) (λ e. n x (sym e)) in
+      rw (← o, is method.Class, is method.Lockable, is method.Lock, is method.Unlock, is method.Get, is method.Set, is method.Add, is method.Remove, is method.ResetKey)
 
-    module _ (y : not g ≡ false) (f : Bool) (r : f ≡ is_forbidden t m) where
-      pub first_forbidden : f ≡ true → 8 ≡ first_status t m count part
-      unfolding first_status
-      first_forbidden z = rw (← q, x, ← p, y, ← r, z)
+  -- a status that a call handed up
+  pub first_err : (r : Result Method Status) (s : Status) → IsErrAnd r (λ e. e ≡ s) → status_number s ≡ first_status t m count part → status_number s ≢ 0 → FirstStatus t m count part r
+  first_err (Ok x) s i e n = absurd i
+  first_err (Err y) s i e n = rw i (e, n)
 
-      module _ (z : f ≡ false) (l : Bool) (s : l ≡ is_malformed m count part) where
-        pub first_malformed : l ≡ true → 4 ≡ first_status t m count part
-        unfolding first_status
-        first_malformed w = rw (← q, x, ← p, y, ← r, z, ← s, w)
+module _ (t : ℕ) (x : Method) (m count : ℕ) (part : List ℕ) (e : method_of x ≡ m) (o : true ≡ is_object t) where
+  pub first_method : false ≡ has_method t (method_of x) → no_method ≡ first_status t m count part
+  unfolding first_status
+  first_method h = rw (← e, ← o, ← h)
 
-        pub first_none : l ≡ false → 0 ≡ first_status t m count part
-        unfolding first_status
-        first_none w = rw (← q, x, ← p, y, ← r, z, ← s, w)
+  pub first_forbidden : true ≡ has_method t (method_of x) → true ≡ is_forbidden t (method_of x) → forbidden ≡ first_status t m count part
+  unfolding first_status
+  first_forbidden h f = rw (← e, ← o, ← h, ← f)
+
+  pub first_malformed : true ≡ has_method t (method_of x) → false ≡ is_forbidden t (method_of x) → true ≡ is_malformed (method_of x) count part → malformed ≡ first_status t m count part
+  unfolding first_status
+  first_malformed h f l = rw (← e, ← o, ← h, ← f, ← l)
+
+  pub first_none : true ≡ has_method t (method_of x) → false ≡ is_forbidden t (method_of x) → false ≡ is_malformed (method_of x) count part → first_status t m count part ≡ carried_out
+  unfolding first_status
+  first_none h f l = rw (← e, ← o, ← h, ← f, ← l)
 
 -- none of them applies
 pub first_allowed : (t m count : ℕ) (part : List ℕ) → first_status t m count part ≡ 0 → Allowed t m part × (count ≡ count_of m)
@@ -159,16 +146,9 @@ first_allowed t m count part e =
       c,
     )
 
--- ---- class identification
-module _ (target : ℕ) (b : Bool) (q : b ≡ is_mute target) where
-  pub class_mute : b ≡ true → answer_with (identification_of (1 ∷ 1 ∷ 1 ∷ 2 ∷ [])) ≡ answer_with (identification_of (class_of target))
-  unfolding class_of
-  class_mute t = rw (← q, t)
-
-  pub class_device : b ≡ false → target ≡ 1 → answer_with (identification_of (1 ∷ 3 ∷ 1 ∷ [])) ≡ answer_with (identification_of (class_of target))
-  unfolding class_of
-  class_device t e = rw (← q, t, eq-eqb target 1 e)
-
-  pub class_subscription : b ≡ false → (target ≡ 1 → ⊥) → answer_with (identification_of (1 ∷ 3 ∷ 4 ∷ [])) ≡ answer_with (identification_of (class_of target))
-  unfolding class_of
-  class_subscription t n = rw (← q, t, ne_eqb target 1 n)
+-- ---- what a reply carries
+pub class_fits : (c : Class) → length (identification_of (class_fields c)) ≤ 12
+unfolding identification_of bytes16
+class_fits class.Mute = omega arith
+class_fits class.DeviceManager = omega arith
+class_fits class.SubscriptionManager = omega arith

@@ -1,10 +1,21 @@
 -- R38, R39, R41. The parameters of a command's response.
-use Rattle.std.specs.Prelude.{ℕ, cond, List, [], ◌∷◌, ◌++◌, eqb, length, replicate}
+use Rattle.std.specs.Prelude.{ℕ, cond, List, [], ◌∷◌, ◌++◌, eqb, length, replicate, Result, Ok, Err}
 use Rattle.std.proofs.lemmas.List.Edits.{sets}
-use Rattle.numbers.specs.Status.{carried_out}
+use Rattle.numbers.specs.Status.{carried_out, status_number}
+use Rattle.numbers.specs.declared.Status.{Status}
 use Rattle.octets.specs.Numbers.{bytes16}
 use Rattle.objects.specs.Methods.{device_manager, is_mute, class_method, lockable_method, get_method}
-use Rattle.objects.specs.declared.Answer.{Answer}
+use Rattle.objects.specs.declared.Class.{Class}
+use Rattle.objects.specs.declared.Class.TheVariants as class
+use Rattle.objects.specs.declared.Reply.{Reply}
+use Rattle.objects.specs.declared.Reply.TheVariants as reply
+
+-- R38, R41. What a response carries: its status, how many parameters there are, and their bytes.
+pub record Carried : Type 0 where
+  pub status : ℕ
+  pub count : ℕ
+  pub length : ℕ
+  pub bytes : List ℕ
 
 -- R39. The most bytes that a response's parameters have: a mute's class identification.
 abbrev pub reply_room : ℕ
@@ -35,11 +46,11 @@ reply_of target m value =
     (cond (eqb m get_method) (value ∷ []) []))
 
 -- R41. A response with another status: no parameters.
-unfoldable pub failed_of : ℕ → Answer
+unfoldable pub failed_of : ℕ → Carried
 failed_of status = record { status = status; count = 0; length = 0; bytes = replicate reply_room 0 }
 
 -- R38. Status 0 with these bytes: one parameter, or none where there are no bytes.
-unfoldable pub answer_with : List ℕ → Answer
+unfoldable pub answer_with : List ℕ → Carried
 answer_with bytes =
     record {
       status = carried_out;
@@ -47,3 +58,26 @@ answer_with bytes =
       length = length bytes;
       bytes = sets (replicate reply_room 0) 0 bytes;
     }
+
+-- R37. The fields of a class.
+abbrev pub class_fields : Class → List ℕ
+class_fields class.Mute = 1 ∷ 1 ∷ 1 ∷ 2 ∷ []
+class_fields class.DeviceManager = 1 ∷ 3 ∷ 1 ∷ []
+class_fields class.SubscriptionManager = 1 ∷ 3 ∷ 4 ∷ []
+
+-- R38. How many parameters a reply has.
+abbrev pub carried_count : Reply → ℕ
+carried_count reply.Done = 0
+carried_count (reply.Byte v) = 1
+carried_count (reply.Class c) = 1
+
+-- R38. The bytes of a reply's parameters.
+abbrev pub carried_bytes : Reply → List ℕ
+carried_bytes reply.Done = []
+carried_bytes (reply.Byte v) = v ∷ []
+carried_bytes (reply.Class c) = identification_of (class_fields c)
+
+-- R38, R41. The answer of a command: status 0 with the reply, or another status.
+abbrev pub answer_in : Result Reply Status → Carried
+answer_in (Ok r) = answer_with (carried_bytes r)
+answer_in (Err s) = failed_of (status_number s)

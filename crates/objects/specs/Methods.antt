@@ -1,5 +1,9 @@
 -- R10, R37, R38. The objects and their methods.
-use Rattle.std.specs.Prelude.{ℕ, ◌+◌, ◌*◌, ◌-◌, Bool, ◌&&◌, ◌||◌, eqb, leb}
+use Rattle.std.specs.Prelude.{ℕ, ◌+◌, ◌*◌, ◌-◌, ◌≡◌, ◌≢◌, Bool, ◌&&◌, ◌||◌, eqb, leb, Result, MatchResult}
+use Rattle.numbers.specs.declared.Status.{Status}
+use Rattle.numbers.specs.declared.Status.TheVariants as status
+use Rattle.objects.specs.declared.Method.{Method}
+use Rattle.objects.specs.declared.Method.TheVariants as method
 
 -- R37. The device manager's object number.
 abbrev pub device_manager : ℕ
@@ -60,6 +64,22 @@ remove_method = method_number 3 2
 -- R38. Set the reset key, 3.14.
 abbrev pub reset_key_method : ℕ
 reset_key_method = method_number 3 14
+
+-- R38. The number of a method.
+abbrev pub method_of : Method → ℕ
+method_of method.Class = class_method
+method_of method.Lockable = lockable_method
+method_of method.Lock = lock_method
+method_of method.Unlock = unlock_method
+method_of method.Add = add_method
+method_of method.Remove = remove_method
+method_of method.ResetKey = reset_key_method
+method_of method.Get = get_method
+method_of method.Set = set_method
+
+-- R38. The method of number m; status 11 where there is none.
+abbrev pub Names : ℕ → Result Method Status → Type 0
+Names m r = MatchResult r (λ x. method_of x ≡ m) (λ s. (s ≡ status.NoMethod) × ((x : Method) → method_of x ≢ m))
 
 -- R40. Event 1.1, the only one that can be subscribed to, as one number (R10).
 abbrev pub change_event : ℕ

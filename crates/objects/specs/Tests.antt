@@ -1,9 +1,12 @@
 -- R40, R43, R44. The tests of a command that need no device.
-use Rattle.std.specs.Prelude.{ℕ, ◌+◌, Bool, cond, not, ◌&&◌, ◌||◌, List, ltb, eqb, length, get_or}
-use Rattle.numbers.specs.Status.{no_object, no_method, forbidden, malformed, carried_out}
+use Rattle.std.specs.Prelude.{ℕ, ◌+◌, ◌≡◌, ◌≢◌, Result, MatchResult, Bool, cond, not, ◌&&◌, ◌||◌, List, ltb, eqb, length, get_or}
+use Rattle.numbers.specs.Status.{no_object, no_method, forbidden, malformed, carried_out, status_number}
+use Rattle.numbers.specs.declared.Status.{Status}
 use Rattle.octets.specs.Numbers.{be16_at}
 use Rattle.frame.specs.Limits.{greatest_context}
 use Rattle.mechanism.specs.Arguments.{is_misfit, is_untaken}
+use Rattle.objects.specs.declared.Method.{Method}
+use Rattle.objects.specs.Methods.{method_of}
 use Rattle.objects.specs.Methods.{set_method, add_method, remove_method, reset_key_method, is_manager, is_object, is_locking, has_method}
 
 -- R40. Status 8: lock or unlock of a manager.
@@ -74,3 +77,10 @@ first_status target m count part =
     (cond (is_forbidden target m) forbidden
     (cond (is_malformed m count part) malformed
     carried_out)))
+
+-- R40. The method where none of them applies, and the first that does.
+abbrev pub FirstStatus : ℕ → ℕ → ℕ → List ℕ → Result Method Status → Type 0
+FirstStatus target m count part r =
+    MatchResult r
+    (λ x. (method_of x ≡ m) × (first_status target m count part ≡ carried_out))
+    (λ s. (status_number s ≡ first_status target m count part) × (status_number s ≢ carried_out))

@@ -1,14 +1,13 @@
 -- Two runs of bytes compared. Assumes nothing.
-use Prim.Native.Nat.{ℕ, ◌+◌, ◌≤◌, ◌<◌}
+use Prim.Native.Nat.{ℕ}
 use mathlib.Core.Path.{◌≡◌, refl, sym, ap, ◌∙◌}
 use mathlib.Core.Bool.{Bool, true, false, ◌&&◌}
 use mathlib.Core.List.{List, [], ◌∷◌, ◌++◌}
 use native.Mathlib.Omega.{arith}
-use native.Mathlib.Numerals.{add-one}
-use borrow.Author.Tests.{eqb-true, eq-eqb, ne_eqb}
+use borrow.Author.Tests.{eqb-true, eq-eqb}
 use lib.Dec.{eqb}
-use lib.ListN.{length, take, get_or, length-take}
-use lib.Seq.{take-suc, take_all}
+use lib.ListN.{length}
+use Rattle.std.proofs.Common.{fold, zip}
 use Rattle.laws.proofs.Conds.{and_left, and_right}
 use Rattle.laws.proofs.Tables.{clash}
 use Rattle.octets.specs.Same.{same_bytes}
@@ -45,40 +44,15 @@ same_long a b n = go (same_bytes a b) refl
     go true e = absurd (n (ap length (same_are a b e)))
     go false e = refl
 
--- ---- a loop that compares, one byte more
-pub same_more : (a b : List ℕ) (i : ℕ) → length a ≡ length b → i < length a → same_bytes (take (i + 1) a) (take (i + 1) b) ≡ (same_bytes (take i a) (take i b) && eqb (get_or a i 0) (get_or b i 0))
+-- a fold over both
+both_from : (t : Bool) (a b : List ℕ) → length a ≡ length b
+    → fold (λ (same : Bool) (pair : ℕ × ℕ). same && eqb pair.0 pair.1) t (zip a b) ≡ (t && same_bytes a b)
 unfolding same_bytes
-same_more a b i e h =
-    let k : i < length b = omega arith in
-    rw (add-one, take-suc a i 0 h, take-suc b i 0 k)
-    (same_append (take i a) (take i b) _ _ (simp (length-take, e))
-    ∙ ap (λ (t : Bool). same_bytes (take i a) (take i b) && t) (and_true (eqb (get_or a i 0) (get_or b i 0))))
+both_from t [] [] e = sym (and_true t)
+both_from t [] (y ∷ b) e = absurd (omega arith)
+both_from t (x ∷ a) [] e = absurd (omega arith)
+both_from t (x ∷ a) (y ∷ b) e = both_from (t && eqb x y) a b (omega arith) ∙ sym (and_assoc t (eqb x y) (same_bytes a b))
 
-pub record Comparing (a b : List ℕ) (i greatest : ℕ) : Type 0 where
-  pub low : i ≤ length a
-  pub long : length a ≡ length b
-  pub is : eqb greatest 0 ≡ same_bytes (take i a) (take i b)
-
-pub comparing_none : (a b : List ℕ) → length a ≡ length b → Comparing a b 0 0
-unfolding same_bytes
-comparing_none a b e = record { low = omega arith; long = e; is = refl }
-
-pub comparing_more : (a b : List ℕ) (i g x y : ℕ) → Comparing a b i g → i < length a → eqb x 0 ≡ eqb (get_or a i 0) (get_or b i 0) → eqb y 0 ≡ (eqb g 0 && eqb x 0) → Comparing a b (i + 1) y
-comparing_more a b i g x y v h ex ey =
-    record {
-      low = omega arith;
-      long = v.long;
-      is = ey ∙ rw (v.is, ex) (sym (same_more a b i v.long h));
-    }
-
-pub comparing_all : (a b : List ℕ) (i g : ℕ) → Comparing a b i g → length a ≤ i → eqb g 0 ≡ same_bytes a b
-comparing_all a b i g v h =
-    let k : length b ≤ i = omega (arith, v.long) in
-    v.is ∙ rw (take_all i a h, take_all i b k)
-
--- ---- one byte
-pub difference_none : (a b : ℕ) → a ≡ b → eqb 0 0 ≡ eqb a b
-difference_none a b e = sym (eq-eqb a b e)
-
-pub difference_some : (a b : ℕ) → (a ≡ b → ⊥) → eqb 1 0 ≡ eqb a b
-difference_some a b n = sym (ne_eqb a b n)
+pub same_fold : (a b : List ℕ) → length a ≡ length b
+    → fold (λ (same : Bool) (pair : ℕ × ℕ). same && eqb pair.0 pair.1) true (zip a b) ≡ same_bytes a b
+same_fold a b e = both_from true a b e

@@ -1,4 +1,5 @@
 -- Every call, on a lent state, is the step of the machine over pieces: for Kept, Whole and Closure. Assumes nothing.
+use Rattle.std.specs.Prelude.{Option, Some, None}
 use Prim.Native.Nat.{ℕ}
 use mathlib.Core.Path.{◌≡◌, refl, sym, ◌∙◌, fun_ext}
 use mathlib.Core.Bool.{Bool, cond, true, false, true≢false}
@@ -14,10 +15,6 @@ use Rattle.subscription.specs.State.{entry_count, lowest_waiting}
 use Rattle.device.specs.State.{fresh_of, open_of, close_of, sent_at, lives_in}
 use Rattle.device.specs.Time.{tick_of}
 use Rattle.device.specs.declared.Device.{Device}
-use Rattle.device.specs.declared.Opening.{Opening}
-use Rattle.device.specs.declared.Opening.TheVariants as opens
-use Rattle.device.specs.declared.Ticking.{Ticking}
-use Rattle.device.specs.declared.Ticking.TheVariants as ticks
 use Rattle.stream.specs.Calls.{deliver, ask, asked, Held, none_held, put, only}
 use Rattle.stream.specs.Scaffold.{Answer, whole, delivered, step}
 use Rattle.stream.specs.Lent.{flat, counts_of}
@@ -72,12 +69,12 @@ module _ (d : Device) (h : Held) (good : GoodAt d h) where
   unfolding call_of open_call step whole rule outcome_of opened_by open_by
   open_told = rw (record_obeys_lem d h good) (go (open_of d).answer)
     where
-      go : (x : Opening)
+      go : (x : Option ℕ)
           → let o = opened_by x (record_with d h) (open_of d) in
           outcome o.answer o.state (area_with h) []
           ≡ leaving h (open_by x d (open_of d).device)
-      go (opens.Number i) = rw (still (open_of d).device (open_still d))
-      go opens.Full = rw same
+      go (Some i) = rw (still (open_of d).device (open_still d))
+      go None = rw same
 
   -- the bytes of the connection that is closed are gone
   closed_bytes : (n : ℕ) → only (open? (close_of d n)) h ≡ put h n []
@@ -117,11 +114,11 @@ module _ (d : Device) (h : Held) (good : GoodAt d h) where
   unfolding call_of tick_call step whole rule outcome_of ticked_by rules.tick_by
   tick_told reading = rw (record_obeys_lem d h good, area_sound_lem d h good) (go (tick_of d reading).answer)
     where
-      go : (x : Ticking)
+      go : (x : Option ℕ)
           → ticked_by x (record_with d h) (tick_of d reading) (area_with h)
           ≡ leaving h (rules.tick_by x d (tick_of d reading).device)
-      go (ticks.Closed m) = rw (ticked_counts reading, ticked_area reading)
-      go ticks.ClockBack = rw same
+      go (Some m) = rw (ticked_counts reading, ticked_area reading)
+      go None = rw same
 
   pub take_told : (out : List ℕ) → Told d h (ask (taking out))
   unfolding call_of take_call step whole rule outcome_of take_by taken_by notifying reminding

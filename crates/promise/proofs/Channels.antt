@@ -1,4 +1,5 @@
 -- A channel that nobody asks for stays free: for Reset, and for the technician. Assumes nothing.
+use Rattle.std.specs.Prelude.{Option, Some, None}
 use Prim.Native.Nat.{ℕ, zero, suc, ◌+◌, ◌^◌, ◌≤◌}
 use mathlib.Core.Path.{◌≡◌, refl, sym, ap, ◌∙◌}
 use mathlib.Core.Bool.{Bool, cond, true, false, not, ◌&&◌}
@@ -27,17 +28,11 @@ use Rattle.connection.specs.declared.Connection.{Connection}
 use Rattle.objects.specs.Methods.{lock_method, place_of, is_object, is_locking, is_mute}
 use Rattle.objects.specs.Tests.{is_forbidden}
 use Rattle.holders.specs.Holders.{owner_of, holder_obeys, swept_holder}
-use Rattle.device.specs.State.{mute_count, fresh_of, open_of, sweep_of, close_of, heard_at, sent_at, told_at, beating_at}
-use Rattle.device.specs.Time.{step_of, tick_step, tick_of}
+use Rattle.device.specs.State.{Opened, mute_count, fresh_of, open_of, sweep_of, close_of, heard_at, sent_at, told_at, beating_at}
+use Rattle.device.specs.Time.{Ticked, step_of, tick_step, tick_of}
 use Rattle.device.specs.Run.{status_of, done_of}
 use Rattle.device.specs.Run as commands
 use Rattle.device.specs.declared.Device.{Device}
-use Rattle.device.specs.declared.Opened.{Opened}
-use Rattle.device.specs.declared.Opening.{Opening}
-use Rattle.device.specs.declared.Opening.TheVariants as opens
-use Rattle.device.specs.declared.Ticked.{Ticked}
-use Rattle.device.specs.declared.Ticking.{Ticking}
-use Rattle.device.specs.declared.Ticking.TheVariants as ticks
 use Rattle.device.proofs.Shapes.{target_is, status_allowed}
 use Rattle.serve.specs.Serve.{ran_with, ran_first, last_of}
 use Rattle.serve.specs.Sound.{Ruled, commands_of, kept_alive, sound_of}
@@ -144,9 +139,9 @@ whole_free d at (asked opening) e a = go (open_of d).answer
     P : Opened → Type 0
     P o = get_or o.device.holders at 0 ≡ 0
 
-    go : (x : Opening) → get_or (open_by x d (open_of d).device).0.holders at 0 ≡ 0
-    go (opens.Number n) = either P (any is_not_open d.connections) _ _ e e
-    go opens.Full = e
+    go : (x : Option ℕ) → get_or (open_by x d (open_of d).device).0.holders at 0 ≡ 0
+    go (Some n) = either P (any is_not_open d.connections) _ _ e e
+    go None = e
 whole_free d at (asked (closing n)) e a = go (live_at d.connections n)
   where
     go : (b : Bool) → get_or (close_by b d n).0.holders at 0 ≡ 0
@@ -157,10 +152,10 @@ whole_free d at (asked (ticking reading)) e a = go (tick_of d reading).answer
     P : Ticked → Type 0
     P o = get_or o.device.holders at 0 ≡ 0
 
-    go : (x : Ticking) → get_or (ruling.tick_by x d (tick_of d reading).device).0.holders at 0 ≡ 0
-    go (ticks.Closed k) =
+    go : (x : Option ℕ) → get_or (ruling.tick_by x d (tick_of d reading).device).0.holders at 0 ≡ 0
+    go (Some k) =
         either P (leb (2 ^ 31) (step_of reading d.reading)) _ _ e (swept_free _ d.holders at e)
-    go ticks.ClockBack = e
+    go None = e
 whole_free d at (asked (taking out)) e a =
     take_ways (λ (x : Device). get_or x.holders at 0 ≡ 0) d out (ltb (length out) least_output) e e e
 whole_free d at (asked (datagram g)) e a = go (datagrams.resets d.mechanism g)

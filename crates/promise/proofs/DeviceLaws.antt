@@ -1,4 +1,5 @@
 -- The device keeps the laws that the machine over pieces asks: for Calls, Kept and Ticks. Assumes nothing.
+use Rattle.std.specs.Prelude.{Option, Some, None}
 use Prim.Native.Nat.{ℕ, ◌^◌, ◌<◌}
 use mathlib.Core.Path.{◌≡◌, refl, sym, ap, ◌∙◌}
 use mathlib.Core.Bool.{Bool, cond, true, false, not, ◌&&◌}
@@ -21,15 +22,9 @@ use Rattle.connection.specs.Supervision.{closes_at, connection_ticked}
 use Rattle.connection.specs.declared.Connection.{Connection}
 use Rattle.connection.proofs.Keeps.{supervision_kept}
 use Rattle.subscription.specs.State.{lowest_waiting}
-use Rattle.device.specs.State.{fresh_of, open_of, close_of, sweep_of, sent_at, told_at}
-use Rattle.device.specs.Time.{step_of, tick_step, tick_of}
+use Rattle.device.specs.State.{Opened, fresh_of, open_of, close_of, sweep_of, sent_at, told_at}
+use Rattle.device.specs.Time.{Ticked, step_of, tick_step, tick_of}
 use Rattle.device.specs.declared.Device.{Device}
-use Rattle.device.specs.declared.Opened.{Opened}
-use Rattle.device.specs.declared.Opening.{Opening}
-use Rattle.device.specs.declared.Opening.TheVariants as opens
-use Rattle.device.specs.declared.Ticked.{Ticked}
-use Rattle.device.specs.declared.Ticking.{Ticking}
-use Rattle.device.specs.declared.Ticking.TheVariants as ticks
 use Rattle.device.proofs.Keeps.{rules_kept}
 use Rattle.serve.specs.Sound.{sound_of}
 use Rattle.serve.proofs.Keeps.{sound_kept}
@@ -109,9 +104,9 @@ unfolding rule open_by close_by rules.tick_by reset_by
 keeps d (handed n m out) f a = keeps_message d n m out f (admit_live d n out a.0) a.1 a.2 (decide m) refl
 keeps d (asked opening) f a = go (open_of d).answer
   where
-    go : (x : Opening) → Fine (open_by x d (open_of d).device).0
-    go (opens.Number i) = record { obeys = rules_kept.opening d f.obeys; eight = length_open d ∙ f.eight }
-    go opens.Full = f
+    go : (x : Option ℕ) → Fine (open_by x d (open_of d).device).0
+    go (Some i) = record { obeys = rules_kept.opening d f.obeys; eight = length_open d ∙ f.eight }
+    go None = f
 keeps d (asked (closing n)) f a = go (live_at d.connections n)
   where
     go : (b : Bool) → Fine (close_by b d n).0
@@ -119,9 +114,9 @@ keeps d (asked (closing n)) f a = go (live_at d.connections n)
     go false = f
 keeps d (asked (ticking reading)) f a = go (tick_of d reading).answer
   where
-    go : (x : Ticking) → Fine (rules.tick_by x d (tick_of d reading).device).0
-    go (ticks.Closed m) = record { obeys = rules_kept.ticking d reading f.obeys; eight = length_tick d reading ∙ f.eight }
-    go ticks.ClockBack = f
+    go : (x : Option ℕ) → Fine (rules.tick_by x d (tick_of d reading).device).0
+    go (Some m) = record { obeys = rules_kept.ticking d reading f.obeys; eight = length_tick d reading ∙ f.eight }
+    go None = f
 keeps d (asked (taking out)) f a =
     take_ways Fine d out (ltb (length out) least_output) f (fine_notified d (lowest_waiting d.subscriptions) f)
     (fine_sent d (lowest_due d.connections) f)
@@ -134,7 +129,7 @@ keeps d (asked (datagram g)) f a = go (resets d.mechanism g)
 -- ---- tells
 
 -- a tick that is not refused
-closed_shape : (d : Device) (reading step m : ℕ) → (tick_step d reading step).answer ≡ ticks.Closed m
+closed_shape : (d : Device) (reading step m : ℕ) → (tick_step d reading step).answer ≡ Some m
     → ((tick_step d reading step).device.connections ≡ map (connection_ticked step) d.connections) × (mask (closes_at step) d.connections ≡ m)
 unfolding tick_step sweep_of
 closed_shape d reading step m =
@@ -142,7 +137,7 @@ closed_shape d reading step m =
   where
     P : Ticked → Type 0
     P t =
-        t.answer ≡ ticks.Closed m
+        t.answer ≡ Some m
         → (t.device.connections ≡ map (connection_ticked step) d.connections) × (mask (closes_at step) d.connections ≡ m)
 
 -- a closed connection stays closed
@@ -151,7 +146,7 @@ unfolding connection_ticked
 ticked_closed step = refl
 
 -- it closes exactly the connections whose bits it sets
-closed_tells : (d : Device) (reading step m k : ℕ) → (tick_step d reading step).answer ≡ ticks.Closed m → k < length d.connections → live_at d.connections k ≡ true
+closed_tells : (d : Device) (reading step m k : ℕ) → (tick_step d reading step).answer ≡ Some m → k < length d.connections → live_at d.connections k ≡ true
     → live_at (tick_step d reading step).device.connections k ≡ not (bit_of m k)
 unfolding live_at
 closed_tells d reading step m k e h l =
@@ -163,12 +158,12 @@ closed_tells d reading step m k e h l =
     let r : (c.live && not (closes_at step c)) ≡ not (bit_of m k) = rw (l, b) in
     ap (λ (cs : List Connection). (get_or cs k closed).live) s.0 ∙ ap (λ (z : Connection). z.live) g ∙ supervision_kept.leaving step c ∙ r
 
-tick_tells : (d : Device) (reading k : ℕ) → k < length d.connections → live_at d.connections k ≡ true → (x : Ticking) → (tick_of d reading).answer ≡ x
+tick_tells : (d : Device) (reading k : ℕ) → k < length d.connections → live_at d.connections k ≡ true → (x : Option ℕ) → (tick_of d reading).answer ≡ x
     → let s = rules.tick_by x d (tick_of d reading).device in
     live_at s.0.connections k ≡ not (cond (eqb (get_or s.1.answer 0 0) 0) (bit_of (get_or s.1.answer 1 0) k) false)
 unfolding rules.tick_by
-tick_tells d reading k h l ticks.ClockBack q = l
-tick_tells d reading k h l (ticks.Closed m) q = closed_tells d reading (step_of reading d.reading) m k q h l
+tick_tells d reading k h l None q = l
+tick_tells d reading k h l (Some m) q = closed_tells d reading (step_of reading d.reading) m k q h l
 
 -- the closure of connection c
 close_tells : (d : Device) (c k : ℕ) → live_at d.connections k ≡ true → live_at (close_of d c).connections k ≡ not (eqb k c)
@@ -191,9 +186,9 @@ unfolding rule shut open_by close_by reset_by
 tells d (handed n m out) k f a l = message_tells d n m out k l (decide m)
 tells d (asked opening) k f a l = go (open_of d).answer
   where
-    go : (x : Opening) → live_at (open_by x d (open_of d).device).0.connections k ≡ true
-    go (opens.Number i) = open_still d k l
-    go opens.Full = l
+    go : (x : Option ℕ) → live_at (open_by x d (open_of d).device).0.connections k ≡ true
+    go (Some i) = open_still d k l
+    go None = l
 tells d (asked (closing n)) k f a l = go (live_at d.connections n)
   where
     go : (b : Bool) → let s = close_by b d n in live_at s.0.connections k ≡ not (cond (eqb (get_or s.1.answer 0 0) 0) (eqb k n) false)

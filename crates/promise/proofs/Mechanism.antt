@@ -1,4 +1,5 @@
 -- Nothing but 3.14 and a reset touches the mechanism, and nothing else looks at it: for ResetKey. Assumes nothing.
+use Rattle.std.specs.Prelude.{Some, None}
 use Prim.Native.Nat.{ℕ, zero, suc, ◌^◌}
 use mathlib.Core.Path.{◌≡◌, refl, sym, ap, ◌∙◌}
 use mathlib.Core.Bool.{Bool, cond, true, false, not, ◌&&◌, and-false}
@@ -23,18 +24,14 @@ use Rattle.subscription.specs.State.{free, twin_at, lowest_unused, marked_of}
 use Rattle.objects.specs.Methods.{lock_method, unlock_method, set_method, add_method, remove_method, reset_key_method, place_of, has_method}
 use Rattle.objects.specs.Tests.{is_malformed}
 use Rattle.objects.specs.Answers.{failed_of}
-use Rattle.objects.specs.declared.Answer.{Answer}
+use Rattle.objects.specs.Answers.{Carried as Answer}
 use Rattle.holders.specs.Holders.{owner_of}
-use Rattle.device.specs.State.{open_of, sweep_of, close_of, at_connection, heard_at, sent_at, told_at, beating_at}
-use Rattle.device.specs.Time.{step_of, advanced, tick_step, tick_of}
+use Rattle.device.specs.State.{Opened, open_of, sweep_of, close_of, at_connection, heard_at, sent_at, told_at, beating_at}
+use Rattle.device.specs.Time.{Ticked, step_of, advanced, tick_step, tick_of}
 use Rattle.device.specs.Setters.{with_connections, with_subscriptions, with_mutes, with_holders, with_mechanism}
 use Rattle.subscription.specs.Arguments.{subscription_from}
 use Rattle.device.specs.Run.{holder_at, mute_at, is_held_by_other, is_subscribed, is_out_of_turn, is_full, later_status, status_of, muted_of, done_of, answer_of, ran_by, run_of}
 use Rattle.device.specs.declared.Device.{Device}
-use Rattle.device.specs.declared.Opened.{Opened}
-use Rattle.device.specs.declared.Opening.TheVariants as opens
-use Rattle.device.specs.declared.Ticked.{Ticked}
-use Rattle.device.specs.declared.Ticking.TheVariants as ticks
 use Rattle.device.specs.Run.{Ran}
 use Rattle.device.proofs.Commands.{arm_status}
 use Rattle.device.proofs.Shapes.{arm_at, status_allowed}
@@ -105,10 +102,10 @@ module _ (d : Device) (k : Mechanism) where
   open_frame = go (any is_not_open d.connections)
     where
       number : Device → Opened
-      number e = record { device = with_connections e (set d.connections (lowest_free d.connections) opened); answer = opens.Number (lowest_free d.connections) }
+      number e = record { device = with_connections e (set d.connections (lowest_free d.connections) opened); answer = Some (lowest_free d.connections) }
 
       full : Device → Opened
-      full e = record { device = e; answer = opens.Full }
+      full e = record { device = e; answer = None }
 
       go : (b : Bool) → ◌≡◌ {A = Opened} (cond b (number (with_mechanism d k)) (full (with_mechanism d k)))
           (record { device = with_mechanism (cond b (number d) (full d)).device k; answer = (cond b (number d) (full d)).answer })
@@ -123,10 +120,10 @@ module _ (d : Device) (k : Mechanism) where
       s = step_of reading d.reading
 
       back : Device → Ticked
-      back e = record { device = e; answer = ticks.ClockBack }
+      back e = record { device = e; answer = None }
 
       passed : Device → Ticked
-      passed e = record { device = sweep_of (advanced e reading (map (connection_ticked s) d.connections)); answer = ticks.Closed (mask (closes_at s) d.connections) }
+      passed e = record { device = sweep_of (advanced e reading (map (connection_ticked s) d.connections)); answer = Some (mask (closes_at s) d.connections) }
 
       ways : Bool → Device → Ticked
       ways b e = cond b (back e) (passed e)

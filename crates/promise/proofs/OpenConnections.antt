@@ -17,9 +17,8 @@ use Rattle.laws.specs.Lists.{any}
 use Rattle.laws.proofs.Conds.{either}
 use Rattle.connection.specs.State.{connection_count, closed, opened, live_at, is_not_open, lowest_free, is_live}
 use Rattle.connection.specs.declared.Connection.{Connection}
-use Rattle.device.specs.State.{fresh_of, open_of, close_of, sent_at, told_at, lives_in}
+use Rattle.device.specs.State.{Opened, fresh_of, open_of, close_of, sent_at, told_at, lives_in}
 use Rattle.device.specs.declared.Device.{Device}
-use Rattle.device.specs.declared.Opened.{Opened}
 use Rattle.serve.specs.Sound.{sound_of}
 use Rattle.serve.proofs.Keeps.{sound_kept}
 use Rattle.device.proofs.Closures.{closure_frees}

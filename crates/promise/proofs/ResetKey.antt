@@ -1,4 +1,5 @@
 -- LatestKeyCounts and KeyStaysInside. Assumes nothing.
+use Rattle.std.specs.Prelude.{Option, Some, None}
 use Prim.Native.Nat.{ℕ, zero, suc}
 use mathlib.Core.Path.{◌≡◌, refl, sym, ap, ◌∙◌, subst}
 use mathlib.Core.Bool.{Bool, cond, true, false, not, ◌&&◌}
@@ -25,19 +26,13 @@ use Rattle.mechanism.specs.declared.Mechanism.{Mechanism}
 use Rattle.mechanism.proofs.Kept.{mechanism_kept}
 use Rattle.connection.specs.State.{connection_count, live_at, lowest_due}
 use Rattle.subscription.specs.State.{entry_count, lowest_waiting}
-use Rattle.device.specs.State.{fresh_of, open_of, close_of, sweep_of, sent_at, told_at, lives_in}
+use Rattle.device.specs.State.{Opened, fresh_of, open_of, close_of, sweep_of, sent_at, told_at, lives_in}
 use Rattle.device.specs.Obeys.{device_obeys}
 use Rattle.device.specs.Setters.{with_mechanism}
-use Rattle.device.specs.Time.{tick_of}
+use Rattle.device.specs.Time.{Ticked, tick_of}
 use Rattle.device.specs.Run.{mute_at}
 use Rattle.device.specs.Run as commands
 use Rattle.device.specs.declared.Device.{Device}
-use Rattle.device.specs.declared.Opened.{Opened}
-use Rattle.device.specs.declared.Opening.{Opening}
-use Rattle.device.specs.declared.Opening.TheVariants as opens
-use Rattle.device.specs.declared.Ticked.{Ticked}
-use Rattle.device.specs.declared.Ticking.{Ticking}
-use Rattle.device.specs.declared.Ticking.TheVariants as ticks
 use Rattle.device.specs.Run.{Ran}
 use Rattle.serve.specs.Sound.{Ruled, sound_of}
 use Rattle.stream.specs.Calls.{deliver, ask, handed, asked, rules, AllBytes}
@@ -79,9 +74,9 @@ whole d (handed n m out) = go (decide m)
     go (Sound t) = sound_key d n m
 whole d (asked opening) = go (open_of d).answer
   where
-    go : (x : Opening) → (open_by x d (open_of d).device).0.mechanism ≡ d.mechanism
-    go (opens.Number n) = ap (λ (o : Opened). o.device.mechanism) (open_frame d d.mechanism)
-    go opens.Full = refl
+    go : (x : Option ℕ) → (open_by x d (open_of d).device).0.mechanism ≡ d.mechanism
+    go (Some n) = ap (λ (o : Opened). o.device.mechanism) (open_frame d d.mechanism)
+    go None = refl
 whole d (asked (closing n)) = go (live_at d.connections n)
   where
     go : (b : Bool) → (close_by b d n).0.mechanism ≡ d.mechanism
@@ -89,9 +84,9 @@ whole d (asked (closing n)) = go (live_at d.connections n)
     go false = refl
 whole d (asked (ticking reading)) = go (tick_of d reading).answer
   where
-    go : (x : Ticking) → (ruling.tick_by x d (tick_of d reading).device).0.mechanism ≡ d.mechanism
-    go (ticks.Closed mask) = ap (λ (o : Ticked). o.device.mechanism) (tick_frame d d.mechanism reading)
-    go ticks.ClockBack = refl
+    go : (x : Option ℕ) → (ruling.tick_by x d (tick_of d reading).device).0.mechanism ≡ d.mechanism
+    go (Some mask) = ap (λ (o : Ticked). o.device.mechanism) (tick_frame d d.mechanism reading)
+    go None = refl
 whole d (asked (taking out)) =
     take_ways (λ (x : Device). x.mechanism ≡ d.mechanism) d out (ltb (length out) least_output) refl refl refl
 whole d (asked (datagram g)) = go (resets d.mechanism g)
@@ -194,9 +189,9 @@ module _ (d : Device) (held : List ℕ) (a b : Mechanism) (w : Alike a b) where
       after : Mechanism → Opened
       after m = record { device = with_mechanism (open_of d).device m; answer = (open_of d).answer }
 
-      go : (x : Opening) → Follows (opened_by x (holding d held a) (after a)) (opened_by x (holding d held b) (after b))
-      go (opens.Number n) = follow (open_of d).device held a b w (0 ∷ n ∷ []) [] []
-      go opens.Full = same_as (5 ∷ []) [] []
+      go : (x : Option ℕ) → Follows (opened_by x (holding d held a) (after a)) (opened_by x (holding d held b) (after b))
+      go (Some n) = follow (open_of d).device held a b w (0 ∷ n ∷ []) [] []
+      go None = same_as (5 ∷ []) [] []
 
   close_follows : (area : List ℕ) (n : ℕ) → Follows (close_call (holding d held a) area n) (close_call (holding d held b) area n)
   unfolding close_call closed_state
@@ -219,9 +214,9 @@ module _ (d : Device) (held : List ℕ) (a b : Mechanism) (w : Alike a b) where
       after : Mechanism → Ticked
       after m = record { device = with_mechanism (tick_of d reading).device m; answer = (tick_of d reading).answer }
 
-      go : (x : Ticking) → Follows (ticked_by x (holding d held a) (after a) area) (ticked_by x (holding d held b) (after b) area)
-      go (ticks.Closed mask) = follow (tick_of d reading).device _ a b w (0 ∷ mask ∷ []) _ []
-      go ticks.ClockBack = same_as (6 ∷ []) area []
+      go : (x : Option ℕ) → Follows (ticked_by x (holding d held a) (after a) area) (ticked_by x (holding d held b) (after b) area)
+      go (Some mask) = follow (tick_of d reading).device _ a b w (0 ∷ mask ∷ []) _ []
+      go None = same_as (6 ∷ []) area []
 
   taken_follow : (x y : Bool) (out : List ℕ) (i n : ℕ)
       → Follows (with_dispatch (holding d held a) (taken_by x y (with_mechanism d a) out i n)) (with_dispatch (holding d held b) (taken_by x y (with_mechanism d b) out i n))

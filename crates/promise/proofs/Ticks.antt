@@ -1,4 +1,5 @@
 -- A tick that is not refused, and whom it closes: for Closure and Heartbeats, and for the technician. Assumes nothing.
+use Rattle.std.specs.Prelude.{Some}
 use Prim.Native.Nat.{ℕ, zero, suc, ◌^◌, ◌<◌}
 use mathlib.Core.Path.{◌≡◌, refl, ap}
 use mathlib.Core.Bool.{Bool, true, false}
@@ -17,7 +18,6 @@ use Rattle.device.specs.State.{sweep_of, lives_in}
 use Rattle.device.specs.Obeys.{device_obeys}
 use Rattle.device.specs.Time.{tick_step, tick_of}
 use Rattle.device.specs.Closure.{Passing}
-use Rattle.device.specs.declared.Ticking.TheVariants as ticks
 use Rattle.stream.specs.Calls.{asked}
 use Rattle.endpoint.specs.State.{record_obeys}
 use Rattle.endpoint.specs.Outcome.{Outcome}
@@ -38,7 +38,7 @@ mask_at r reading = mask (closes_at (step_at r reading)) r.device.connections
 pub record Ticks (r : Record) (area : List ℕ) (reading : ℕ) : Type 0 where
   pub obeys : device_obeys r.device ≡ true
   pub timely : Passing r.device reading
-  pub given : tick_call r area reading ≡ ticked_by (ticks.Closed (mask_at r reading)) r (tick_of r.device reading) area
+  pub given : tick_call r area reading ≡ ticked_by (Some (mask_at r reading)) r (tick_of r.device reading) area
 
 pub passed : (r : Record) (area : List ℕ) (reading : ℕ) → passes r area reading ≡ true → Ticks r area reading
 unfolding passes tick_call tick_step ticked_by
@@ -97,7 +97,7 @@ module _ (r : Record) (area : List ℕ) (reading : ℕ) (p : passes r area readi
   unfolding tick_step sweep_of
   entries_after = rw (after, t.timely) (length-map r.device.subscriptions _)
 
-  pub told : (tick_of r.device reading).answer ≡ ticks.Closed (mask_at r reading)
+  pub told : (tick_of r.device reading).answer ≡ Some (mask_at r reading)
   unfolding tick_step
   told = rw t.timely
 

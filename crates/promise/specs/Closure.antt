@@ -6,10 +6,8 @@ use Rattle.connection.specs.State.{closed, opened, live_at}
 use Rattle.subscription.specs.State.{free}
 use Rattle.subscription.specs.declared.Subscription.{Subscription}
 use Rattle.device.specs.Closure.{locks_of, subscriptions_of, no_locks, no_entries, Gone, Stays}
+use Rattle.numbers.specs.declared.Fault.{Fault}
 use Rattle.answers.specs.Numbers.{opening_numbers, closing_numbers, ticking_numbers, delivery_numbers}
-use Rattle.answers.specs.declared.Opening.TheVariants as openings
-use Rattle.answers.specs.declared.Closing.TheVariants as closings
-use Rattle.answers.specs.declared.Ticking.TheVariants as tickings
 use Rattle.answers.specs.declared.Delivery.TheVariants as deliveries
 use Rattle.endpoint.specs.Outcome.{Outcome}
 use Rattle.endpoint.specs.Calls.{open_call, close_call, tick_call}
@@ -85,20 +83,20 @@ pub record New (n : ℕ) (r r' : Record) (area : List ℕ) : Type 0 where
 -- R56. A tick of a record and an area that keep their rules, with this answer.
 pub record TickTold (r : Record) (area : List ℕ) (reading mask : ℕ) : Type 0 where
   pub kept : Kept r area
-  pub answer : (tick_call r area reading).answer ≡ ticking_numbers (tickings.Closed mask)
+  pub answer : (tick_call r area reading).answer ≡ ticking_numbers mask
 
 -- R58. An opening of a record and an area that keep their rules, with this number.
 pub record OpeningTold (r : Record) (area : List ℕ) (n : ℕ) : Type 0 where
   pub kept : Kept r area
-  pub answer : (open_call r).answer ≡ opening_numbers (openings.Number n)
+  pub answer : (open_call r).answer ≡ opening_numbers n
 
 -- Theorem. A closure leaves nothing of its connections and all of the others; a number opened again is new.
 pub record ClosureLeavesNothing : Type 0 where
   -- the host's close
-  pub by_host : (r : Record) (area : List ℕ) (n : ℕ) → Kept r area → (close_call r area n).answer ≡ closing_numbers closings.Done
+  pub by_host : (r : Record) (area : List ℕ) (n : ℕ) → Kept r area → (close_call r area n).answer ≡ closing_numbers tt
       → ClosedAlone n r area (close_call r area n)
   -- a fault in the bytes delivered
-  pub by_fault : (r : Record) (area : List ℕ) (n : ℕ) (piece out : List ℕ) (taken fault : ℕ) → Kept r area
+  pub by_fault : (r : Record) (area : List ℕ) (n : ℕ) (piece out : List ℕ) (taken : ℕ) (fault : Fault) → Kept r area
       → (deliver_call r area n piece out).answer ≡ delivery_numbers (deliveries.Closed taken fault)
       → ClosedAlone n r area (deliver_call r area n piece out)
   -- a tick

@@ -11,9 +11,10 @@ use Rattle.device.specs.declared.Device.{Device}
 use Rattle.stream.specs.Calls.{handed, asked}
 use Rattle.numbers.specs.Status.{held_by_other, carried_out}
 use Rattle.answers.specs.Numbers.{ticking_numbers, delivery_numbers, taking_numbers}
-use Rattle.answers.specs.declared.Ticking.TheVariants as tickings
 use Rattle.answers.specs.declared.Delivery.TheVariants as deliveries
 use Rattle.answers.specs.declared.Taking.TheVariants as takings
+use Rattle.numbers.specs.Refusal.{refusal_numbers}
+use Rattle.numbers.specs.declared.Refusal.TheVariants as refusals
 use Rattle.replies.specs.Bytes.{least_output}
 use Rattle.promise.specs.Rulebook.{ticking, taking, Given, rule}
 
@@ -125,8 +126,8 @@ abbrev pub step_rows : List Row
 step_rows =
     row (step_of 200 4294967000 ∷ []) (496 ∷ [])
     ∷ row (supervision_of (after_tick (after_message (two_open 4294967000) 0 keep_alive2s) 200)) (seconds_form ∷ 2000 ∷ 496 ∷ [])
-    ∷ row (tick_answer (two_open 0) (2 ^ 31 - 1)) (ticking_numbers (tickings.Closed 0))
-    ∷ row (tick_answer (two_open 0) (2 ^ 31)) (ticking_numbers tickings.ClockBack)
+    ∷ row (tick_answer (two_open 0) (2 ^ 31 - 1)) (ticking_numbers 0)
+    ∷ row (tick_answer (two_open 0) (2 ^ 31)) (refusal_numbers refusals.ClockBack)
     ∷ []
 
 -- R83. All rows.

@@ -5,7 +5,7 @@ use Rattle.reader.specs.Examples.{lock4097, reply7}
 use Rattle.layout.specs.Message as layouts
 use Rattle.mechanism.specs.Datagram.{sentinel}
 use Rattle.objects.specs.Methods.{device_manager, subscription_manager}
-use Rattle.numbers.specs.Fault.{fault_data}
+use Rattle.numbers.specs.declared.Fault.TheVariants as fault
 use Rattle.numbers.specs.Status.{no_method, malformed, held_by_other, bad_value, carried_out}
 use Rattle.answers.specs.Numbers.{delivery_numbers, resetting_numbers}
 use Rattle.answers.specs.declared.Delivery.TheVariants as deliveries
@@ -87,7 +87,7 @@ datagram_row d g answer = row (rule d (asked (datagram g))).1.answer (resetting_
 
 -- R12, R30. A message with a count without bytes: it closes its connection, and gets no reply.
 abbrev pub closed_row : List ℕ → Row
-closed_row m = row (told (rule (two_open 0) (handed 0 m [])).1) (delivery_numbers (deliveries.Closed (length m) fault_data))
+closed_row m = row (told (rule (two_open 0) (handed 0 m [])).1) (delivery_numbers (deliveries.Closed (length m) fault.Data))
 
 -- R71, R73. Statuses 0, 7 and 4 of 3.14, 11 on another object, and a 3.14 that closes its connection.
 abbrev pub status_rows : List Row

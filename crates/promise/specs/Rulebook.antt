@@ -1,5 +1,5 @@
 -- R81. The rules over whole messages, datagrams among them, and whom an answer closes.
-use Rattle.std.specs.Prelude.{ℕ, zero, suc, ◌/◌, ◌%◌, ◌≡◌, Bool, cond, true, false, List, [], length, get_or, ltb, eqb}
+use Rattle.std.specs.Prelude.{ℕ, zero, suc, ◌/◌, ◌%◌, ◌≡◌, Bool, cond, true, false, List, [], length, get_or, ltb, eqb, Option, Some, None}
 use Rattle.frame.specs.Decide.{decide}
 use Rattle.frame.specs.declared.Decision.{Decision}
 use Rattle.frame.specs.declared.Decision.TheVariants.{Undecided, Faulty, Sound}
@@ -10,23 +10,16 @@ use Rattle.device.specs.State.{fresh_of, open_of, close_of}
 use Rattle.device.specs.Time.{tick_of}
 use Rattle.device.specs.Obeys.{device_obeys}
 use Rattle.device.specs.declared.Device.{Device}
-use Rattle.device.specs.declared.Opening.{Opening}
-use Rattle.device.specs.declared.Opening.TheVariants as opens
-use Rattle.device.specs.declared.Ticking.{Ticking}
-use Rattle.device.specs.declared.Ticking.TheVariants as ticks
 use Rattle.serve.specs.Sound.{sound_of}
 use Rattle.taking.specs.Dispatch.{dispatched}
 use Rattle.stream.specs.Calls.{Whole, handed, asked}
 use Rattle.numbers.specs.Kind.{kind_closed, kind_reset}
 use Rattle.answers.specs.Numbers.{opening_numbers, closing_numbers, ticking_numbers}
-use Rattle.answers.specs.Numbers.{delivery_numbers, taking_numbers, resetting_numbers}
-use Rattle.answers.specs.declared.Opening.TheVariants as openings
-use Rattle.answers.specs.declared.Closing.TheVariants as closings
-use Rattle.answers.specs.declared.Ticking.TheVariants as tickings
+use Rattle.answers.specs.Numbers.{delivery_numbers, resetting_numbers}
 use Rattle.answers.specs.declared.Delivery.TheVariants as deliveries
-use Rattle.answers.specs.declared.Taking.TheVariants as takings
 use Rattle.answers.specs.declared.Resetting.TheVariants as resettings
-use Rattle.numbers.specs.Refusal.{not_refused, no_connection, no_room}
+use Rattle.numbers.specs.Refusal.{not_refused, no_connection, no_room, refusal_numbers}
+use Rattle.numbers.specs.declared.Refusal.TheVariants as refusals
 use Rattle.replies.specs.Bytes.{least_output}
 
 -- R2. The calls that are no delivery.
@@ -59,23 +52,23 @@ message_by (Sound t) d n m out =
     (s.device, given (delivery_numbers (deliveries.Message (length m) (length s.reply))) (at_front s.reply out))
 
 -- R58. Opening.
-unfoldable pub open_by : Opening → Device → Device → Device × Given
-open_by (opens.Number n) d e = (e, given (opening_numbers (openings.Number n)) [])
-open_by opens.Full d e = (d, given (opening_numbers openings.TableFull) [])
+unfoldable pub open_by : Option ℕ → Device → Device → Device × Given
+open_by (Some n) d e = (e, given (opening_numbers n) [])
+open_by None d e = (d, given (refusal_numbers refusals.TableFull) [])
 
 -- R59. Closing, by whether the connection is open.
 unfoldable pub close_by : Bool → Device → ℕ → Device × Given
-close_by true d n = (close_of d n, given (closing_numbers closings.Done) [])
-close_by false d n = (d, given (closing_numbers closings.NoConnection) [])
+close_by true d n = (close_of d n, given (closing_numbers tt) [])
+close_by false d n = (d, given (refusal_numbers refusals.NoConnection) [])
 
 -- R56. A tick.
-unfoldable pub tick_by : Ticking → Device → Device → Device × Given
-tick_by (ticks.Closed mask) d e = (e, given (ticking_numbers (tickings.Closed mask)) [])
-tick_by ticks.ClockBack d e = (d, given (ticking_numbers tickings.ClockBack) [])
+unfoldable pub tick_by : Option ℕ → Device → Device → Device × Given
+tick_by (Some mask) d e = (e, given (ticking_numbers mask) [])
+tick_by None d e = (d, given (refusal_numbers refusals.ClockBack) [])
 
 -- R49. Taking, by whether the output is too small; it is about the device alone.
 unfoldable pub take_by : Bool → Device → List ℕ → Device × Given
-take_by true d out = (d, given (taking_numbers takings.NoRoom) out)
+take_by true d out = (d, given (refusal_numbers refusals.NoRoom) out)
 take_by false d out =
     let s = dispatched d out in
     (s.device, given s.answer s.output)

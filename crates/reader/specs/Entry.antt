@@ -1,5 +1,5 @@
 -- R20 to R22. Reading entry i and its part.
-use Rattle.std.specs.Prelude.{ℕ, ◌+◌, ◌-◌, ◌≤◌, ◌≡◌, List, [], ◌∷◌, Bool, cond, false, length, take, drop, ltb, eqb}
+use Rattle.std.specs.Prelude.{ℕ, ◌+◌, ◌-◌, ◌≤◌, ◌≡◌, List, [], ◌∷◌, Result, Bool, cond, false, length, take, drop, ltb, eqb}
 use Rattle.frame.specs.Limits.{notification, keep_alive}
 use Rattle.frame.specs.Header.{pdu_type, message_count}
 use Rattle.frame.specs.Entry.{parameter_offset}
@@ -8,7 +8,9 @@ use Rattle.frame.specs.declared.Decision.{Decision}
 use Rattle.frame.specs.declared.Decision.TheVariants.{Undecided, Faulty, Sound}
 use Rattle.fields.specs.Place.{entries_from, entry_bytes, parameters_of}
 use Rattle.fields.specs.Fields.{command_of, notification_of, response_of}
+use Rattle.numbers.specs.Fault.{fault_number}
 use Rattle.numbers.specs.Refusal.{not_refused, fault, short, no_entry}
+use Rattle.numbers.specs.declared.Refusal.{Refusal}
 use Rattle.reader.specs.Numbers.{command_numbers, notification_numbers, response_numbers, entry_numbers}
 use Rattle.reader.specs.declared.Entry.{Entry}
 use Rattle.reader.specs.declared.Part.{Part}
@@ -35,7 +37,7 @@ entry_in s n i = cond (has_entry (pdu_type s) (message_count s) i) (fields_of (p
 -- R20. The answer by what the bytes decide.
 unfoldable pub entry_by : Decision → List ℕ → ℕ → List ℕ
 entry_by Undecided s i = short ∷ []
-entry_by (Faulty f n) s i = fault ∷ f ∷ []
+entry_by (Faulty f n) s i = fault ∷ fault_number f ∷ []
 entry_by (Sound n) s i = entry_in s n i
 
 -- R20, R64. Reading entry i of the message at the front of s: 8, 9, then 12, or its fields.
@@ -74,7 +76,7 @@ unfoldable pub part_start : List ℕ → ℕ → ℕ
 part_start s i = part_start_by (decide s) s i
 
 -- R20, R68. What reading entry i promises: answer r.
-abbrev pub ReadsEntry : List ℕ → ℕ → Entry → Type 0
+abbrev pub ReadsEntry : List ℕ → ℕ → Result Entry Refusal → Type 0
 ReadsEntry s i r = entry_numbers r ≡ entry_of s i
 
 -- R21, R68. What asking for the part of entry i promises.

@@ -1,6 +1,7 @@
 -- R66. The numbers of the reader's answers.
-use Rattle.std.specs.Prelude.{ℕ, List, [], ◌∷◌}
-use Rattle.numbers.specs.Refusal.{not_refused, fault, short, no_entry}
+use Rattle.std.specs.Prelude.{ℕ, List, [], ◌∷◌, Result, Ok, Err}
+use Rattle.numbers.specs.Refusal.{not_refused, refusal_numbers}
+use Rattle.numbers.specs.declared.Refusal.{Refusal}
 use Rattle.frame.specs.Limits.{command_wanting_reply, notification, response, keep_alive}
 use Rattle.heartbeat.specs.Beat.{form_of, value_of}
 use Rattle.heartbeat.specs.declared.Heartbeat.{Heartbeat}
@@ -10,7 +11,6 @@ use Rattle.fields.specs.declared.ResponseFields.{ResponseFields}
 use Rattle.reader.specs.declared.Message.{Message}
 use Rattle.reader.specs.declared.Message.TheVariants.{Command, CommandWantingReply, Notification, Response, KeepAlive}
 use Rattle.reader.specs.declared.Reading.{Reading}
-use Rattle.reader.specs.declared.Reading.TheVariants as reading
 use Rattle.reader.specs.declared.Entry.{Entry}
 use Rattle.reader.specs.declared.Entry.TheVariants as entry
 
@@ -26,11 +26,10 @@ message_numbers (Notification n) = notification ∷ n ∷ []
 message_numbers (Response n) = response ∷ n ∷ []
 message_numbers (KeepAlive h) = keep_alive ∷ 1 ∷ heartbeat_numbers h
 
--- R66. A reading: the message's length and what it is; or 8 and the fault; or 9.
-unfoldable pub reading_numbers : Reading → List ℕ
-reading_numbers (reading.Read m n) = not_refused ∷ n ∷ message_numbers m
-reading_numbers (reading.Fault f) = fault ∷ f ∷ []
-reading_numbers reading.Short = short ∷ []
+-- R66. A reading: the message's length and what it is; or what the refusal tells.
+unfoldable pub reading_numbers : Result Reading Refusal → List ℕ
+reading_numbers (Ok r) = not_refused ∷ r.length ∷ message_numbers r.message
+reading_numbers (Err e) = refusal_numbers e
 
 -- R66. The fields of a command in the order of R9, 0 first for both types.
 unfoldable pub command_numbers : CommandFields → List ℕ
@@ -46,11 +45,9 @@ notification_numbers n =
 unfoldable pub response_numbers : ResponseFields → List ℕ
 response_numbers r = response ∷ r.handle ∷ r.status ∷ r.count ∷ []
 
--- R66. An entry: its fields; or 8 and the fault; or 9; or 12.
-unfoldable pub entry_numbers : Entry → List ℕ
-entry_numbers (entry.Command c) = not_refused ∷ command_numbers c
-entry_numbers (entry.Notification n) = not_refused ∷ notification_numbers n
-entry_numbers (entry.Response r) = not_refused ∷ response_numbers r
-entry_numbers (entry.Fault f) = fault ∷ f ∷ []
-entry_numbers entry.Short = short ∷ []
-entry_numbers entry.NoEntry = no_entry ∷ []
+-- R66. An entry: its fields; or what the refusal tells.
+unfoldable pub entry_numbers : Result Entry Refusal → List ℕ
+entry_numbers (Ok (entry.Command c)) = not_refused ∷ command_numbers c
+entry_numbers (Ok (entry.Notification n)) = not_refused ∷ notification_numbers n
+entry_numbers (Ok (entry.Response r)) = not_refused ∷ response_numbers r
+entry_numbers (Err e) = refusal_numbers e

@@ -1,7 +1,7 @@
-// The reader of whole messages: the message at the front of some bytes, its entries, and each entry's part.
+//! The reader of whole messages: the message at the front of some bytes, its entries, and each entry's part.
 #![tactic(auto)]
 
-ghost use Rattle.std.specs.Prelude.{◌≡◌, [], ◌∷◌, cond, ◌+◌, ◌≤◌, length, eqb};
+ghost use Rattle.std.specs.Prelude.{◌≡◌, [], ◌∷◌, cond, ◌+◌, ◌≤◌, length, get_or, eqb, Ok, IfOk};
 ghost use Rattle.frame.specs.Limits.{notification};
 ghost use Rattle.frame.specs.Places.{context_place};
 ghost use Rattle.frame.specs.Entry.{least_entry, context_count, parameter_offset};
@@ -10,16 +10,17 @@ ghost use Rattle.reader.specs.Numbers.{message_numbers, entry_numbers};
 ghost use Rattle.reader.specs.Read.{message_of, ReadsMessage};
 ghost use Rattle.reader.specs.Entry.{fields_of, ReadsEntry, GivesPart, TellsStart, PlacesPart, PartStands};
 ghost use Rattle.reader.specs.Context.{GivesContext, PlacesContext, ContextStands};
-ghost use Rattle.reader.specs.Scaffold.{place_at, entry_place, RestStands};
+ghost use Rattle.reader.specs.Scaffold.{place_at, entry_place, RestStands, AtPlace};
 ghost use Rattle.reader.specs.Tell.{NumbersTell};
 ghost use Rattle.reader.specs.Examples.{ExamplesRead};
 
 use fields::{CommandFields, NotificationFields, ResponseFields};
-use frame::{Decision, places};
+use frame::{Decision, Found, places};
 use heartbeat::Heartbeat;
+use numbers::Refusal;
 
-// A sound message: its messageCount, or a keep-alive's heartbeat.
-#[derive(Clone, Copy)]
+/// A sound message: its messageCount, or a keep-alive's heartbeat.
+#[derive(Clone, Copy, Debug, PartialEq, Eq)]
 pub enum Message {
     Command(u16),
     CommandWantingReply(u16),
@@ -28,42 +29,67 @@ pub enum Message {
     KeepAlive(Heartbeat),
 }
 
-#[derive(Clone, Copy)]
-pub enum Reading {
-    // the message and its length, the 3B counted
-    Read(Message, usize),
-    Fault(u8),
-    Short,
+impl Message {
+    /// The message's type.
+    #[tactic(auto, unfolding(crate::specs::Numbers::message_numbers))]
+    pub fn kind(self) -> u8
+        ensures { result ≡ get_or (message_numbers self) 0 0 }
+    {
+        match self {
+            Message::Command(_) => frame::COMMAND,
+            Message::CommandWantingReply(_) => frame::COMMAND_WANTING_REPLY,
+            Message::Notification(_) => frame::NOTIFICATION,
+            Message::Response(_) => frame::RESPONSE,
+            Message::KeepAlive(_) => frame::KEEP_ALIVE,
+        }
+    }
+
+    /// The message's messageCount, which is 1 in a keep-alive.
+    #[tactic(auto, unfolding(crate::specs::Numbers::message_numbers))]
+    pub fn count(self) -> u16
+        ensures { result ≡ get_or (message_numbers self) 1 0 }
+    {
+        match self {
+            Message::Command(count)
+            | Message::CommandWantingReply(count)
+            | Message::Notification(count)
+            | Message::Response(count) => count,
+            Message::KeepAlive(_) => 1,
+        }
+    }
 }
 
-#[derive(Clone, Copy)]
+/// A message, and its length with the 3B counted.
+#[derive(Clone, Copy, Debug, PartialEq, Eq)]
+pub struct Reading {
+    pub message: Message,
+    pub length: usize,
+}
+
+/// An entry's fields, by its type.
+#[derive(Clone, Copy, Debug, PartialEq, Eq)]
 pub enum Entry {
     Command(CommandFields),
     Notification(NotificationFields),
     Response(ResponseFields),
-    Fault(u8),
-    Short,
-    NoEntry,
 }
 
-// Where an entry stands in the caller's bytes, up to the byte behind its last; or why it is refused.
+// Where an entry stands in the caller's bytes, up to the byte behind its last.
 #[derive(Clone, Copy)]
-enum Place {
-    At(usize, usize),
-    Fault(u8),
-    Short,
-    NoEntry,
+struct Place {
+    from: usize,
+    end: usize,
 }
 
-// Where an entry's part stands in the caller's bytes.
-#[derive(Clone, Copy)]
+/// Where an entry's part stands in the caller's bytes.
+#[derive(Clone, Copy, Debug, PartialEq, Eq)]
 pub struct Part {
     pub start: usize,
     pub length: usize,
 }
 
 impl Part {
-    // The part of an entry that is refused.
+    /// The part of an entry that is refused.
     pub const NONE: Part = Part {
         start: 0,
         length: 0,
@@ -76,9 +102,9 @@ fn message_of(kind: u8, count: u16) -> Message
     ensures { message_numbers result ≡ kind ∷ count ∷ [] }
 {
     match kind {
-        0 => Message::Command(count),
-        1 => Message::CommandWantingReply(count),
-        2 => Message::Notification(count),
+        frame::COMMAND => Message::Command(count),
+        frame::COMMAND_WANTING_REPLY => Message::CommandWantingReply(count),
+        frame::NOTIFICATION => Message::Notification(count),
         _ => Message::Response(count),
     }
 }
@@ -95,103 +121,92 @@ fn message_in(s: &[u8], n: usize) -> Message
     message_of(s[places::TYPE], octets::be16(s, places::MESSAGE_COUNT))
 }
 
-// The message at the front of s.
+/// The message at the front of `s`; 8 where its bytes decide a fault, 9 where they decide nothing yet.
 #[tactic(auto, using(frame::proofs::Sounds::sound_at), unfolding(crate::specs::Read::read_by, crate::specs::Numbers::reading_numbers, crate::specs::Read::read_of))]
-pub fn read_message(s: &[u8]) -> Reading
+pub fn read_message(s: &[u8]) -> Result<Reading, Refusal>
     ensures { ReadsMessage s.now result }
 {
     match frame::decide(s) {
-        Decision::Undecided => Reading::Short,
-        Decision::Faulty(f, _) => Reading::Fault(f),
-        Decision::Sound(n) => Reading::Read(message_in(s, n), n),
+        Decision::Undecided => Err(Refusal::Short),
+        Decision::Faulty(fault, _) => Err(fault.into()),
+        Decision::Sound(length) => Ok(Reading {
+            message: message_in(s, length),
+            length,
+        }),
     }
 }
 
 #[tactic(auto, using(frame::proofs::Entries::least_command_lem, frame::proofs::Entries::least_response_lem, frame::proofs::Entries::offset_low), unfolding(crate::specs::Numbers::entry_numbers, crate::specs::Entry::fields_of))]
 fn fields_of(kind: u8, e: &[u8]) -> Entry
     requires { parameter_offset kind e.now ≤ length e.now }
-    ensures { entry_numbers result ≡ fields_of kind e.now }
+    ensures { entry_numbers (Ok result) ≡ fields_of kind e.now }
 {
-    if kind < frame::NOTIFICATION {
-        return Entry::Command(fields::command_of(e));
+    match kind {
+        frame::COMMAND | frame::COMMAND_WANTING_REPLY => Entry::Command(fields::command_of(e)),
+        frame::NOTIFICATION => Entry::Notification(fields::notification_of(e)),
+        _ => Entry::Response(fields::response_of(e)),
     }
-    if kind == frame::NOTIFICATION {
-        return Entry::Notification(fields::notification_of(e));
-    }
-    Entry::Response(fields::response_of(e))
 }
 
-// The entry from whose first byte on `rest` of the message's n bytes stand: none where that is 0.
+// The entry from whose first byte on `rest` of the message's n bytes stand, if it has such an entry.
 #[tactic(auto, using(laws::proofs::Parts::rest), unfolding(crate::specs::Scaffold::place_at))]
-fn place_in(s: &[u8], n: usize, rest: usize) -> Place
+fn place_in(s: &[u8], n: usize, rest: Option<usize>) -> Result<Place, Refusal>
     requires { RestStands s.now n rest }
     ensures { result ≡ place_at s.now n rest }
 {
-    if rest == 0 {
-        return Place::NoEntry;
-    }
-    let from = n - rest;
-    Place::At(from, from + frame::given_size(&s[from..]))
+    let from = n - rest.ok_or(Refusal::NoEntry)?;
+    let end = from + frame::given_size(&s[from..]);
+    Ok(Place { from, end })
 }
 
 // Where entry index of the message at the front of s stands: found by the walk that decides the message, for every call below.
-#[tactic(auto, using(frame::proofs::Sounds::sound_at, crate::proofs::Places::rest_stands), unfolding(crate::specs::Scaffold::place_by, crate::specs::Scaffold::entry_place))]
-fn place_of(s: &[u8], index: usize) -> Place
-    ensures { result ≡ entry_place s.now index }
+#[tactic(auto, using(frame::proofs::Sounds::sound_at, crate::proofs::Places::rest_stands, crate::proofs::Places::place_stands), unfolding(crate::specs::Scaffold::place_by, crate::specs::Scaffold::entry_place))]
+fn place_of(s: &[u8], index: usize) -> Result<Place, Refusal>
+    ensures place { result ≡ entry_place s.now index }
+    ensures stands { IfOk result (λ p. AtPlace s.now p.from p.end) }
 {
-    let found = frame::find(s, index);
-    let decision = found.decision;
+    let Found { decision, rest } = frame::find(s, index);
     match decision {
-        Decision::Undecided => Place::Short,
-        Decision::Faulty(f, _) => Place::Fault(f),
-        Decision::Sound(n) => place_in(s, n, found.rest),
+        Decision::Undecided => Err(Refusal::Short),
+        Decision::Faulty(fault, _) => Err(fault.into()),
+        Decision::Sound(n) => place_in(s, n, rest),
     }
 }
 
-// Entry index of the message at the front of s.
-#[tactic(auto, using(crate::proofs::Places::placing, crate::proofs::Places::at_long), unfolding(crate::specs::Numbers::entry_numbers, crate::specs::Scaffold::entry_placed))]
-pub fn read_entry(s: &[u8], index: usize) -> Entry
+/// Entry `index` of the message at the front of `s`; 12 where that message has no such entry, and 8 or 9 where there is no message.
+#[tactic(auto, using(crate::proofs::Places::entry_ok, crate::proofs::Places::entry_err, crate::proofs::Places::at_long), unfolding(crate::specs::Numbers::entry_numbers))]
+pub fn read_entry(s: &[u8], index: usize) -> Result<Entry, Refusal>
     ensures { ReadsEntry s.now index result }
 {
-    match place_of(s, index) {
-        Place::At(from, end) => fields_of(s[places::TYPE], &s[from..end]),
-        Place::Fault(f) => Entry::Fault(f),
-        Place::Short => Entry::Short,
-        Place::NoEntry => Entry::NoEntry,
-    }
+    let Place { from, end } = place_of(s, index)?;
+    Ok(fields_of(s[places::TYPE], &s[from..end]))
 }
 
-// R21, R22. Where the parameters of entry index stand in s.
-#[tactic(auto, using(crate::proofs::Places::placing, crate::proofs::Places::at_least), unfolding(crate::specs::Scaffold::start_placed, crate::specs::Scaffold::length_placed))]
+/// R21, R22. Where the parameters of entry `index` stand in `s`; nothing where the entry is refused.
+#[tactic(auto, using(crate::proofs::Places::part_ok, crate::proofs::Places::part_err, crate::proofs::Places::at_least))]
 pub fn part_place(s: &[u8], index: usize) -> Part
     ensures { PlacesPart s.now index result }
 {
-    match place_of(s, index) {
-        Place::At(from, end) => {
-            let start = from + frame::parameter_offset(s[places::TYPE], &s[from..end]);
-            Part {
-                start,
-                length: end - start,
-            }
-        }
-        Place::Fault(_) => Part::NONE,
-        Place::Short => Part::NONE,
-        Place::NoEntry => Part::NONE,
+    let Ok(Place { from, end }) = place_of(s, index) else {
+        return Part::NONE;
+    };
+    let start = from + frame::parameter_offset(s[places::TYPE], &s[from..end]);
+    Part {
+        start,
+        length: end - start,
     }
 }
 
-// R21. The parameters of entry index, as a slice of s; empty where it is refused.
+/// R21. The parameters of entry index, as a slice of s; empty where it is refused.
 #[tactic(auto, using(crate::proofs::Starts::part_stands))]
 pub fn entry_part<'a>(s: &'a [u8], index: usize) -> &'a [u8]
     ensures { GivesPart s.now index result.now }
 {
-    let part = part_place(s, index);
-    let start = part.start;
-    let end = start + part.length;
-    &s[start..end]
+    let Part { start, length } = part_place(s, index);
+    &s[start..start + length]
 }
 
-// Where entry index's part starts in s, for a caller that cannot be handed a slice: 0 where the entry is refused.
+/// Where entry index's part starts in s, for a caller that cannot be handed a slice: 0 where the entry is refused.
 pub fn part_start(s: &[u8], index: usize) -> usize
     ensures { TellsStart s.now index result }
 {
@@ -220,28 +235,24 @@ fn context_at(kind: u8, from: usize, e: &[u8]) -> Part
     }
 }
 
-// R21, R22. Where the context of entry index stands in s: a notification's alone has one.
-#[tactic(auto, using(crate::proofs::Places::placing, crate::proofs::Places::at_least), unfolding(crate::specs::Scaffold::context_start_placed, crate::specs::Scaffold::context_length_placed))]
+/// R21, R22. Where the context of entry index stands in s: a notification's alone has one.
+#[tactic(auto, using(crate::proofs::Places::context_ok, crate::proofs::Places::context_err, crate::proofs::Places::at_least))]
 pub fn context_place(s: &[u8], index: usize) -> Part
     ensures { PlacesContext s.now index result }
 {
-    match place_of(s, index) {
-        Place::At(from, end) => context_at(s[places::TYPE], from, &s[from..end]),
-        Place::Fault(_) => Part::NONE,
-        Place::Short => Part::NONE,
-        Place::NoEntry => Part::NONE,
-    }
+    let Ok(Place { from, end }) = place_of(s, index) else {
+        return Part::NONE;
+    };
+    context_at(s[places::TYPE], from, &s[from..end])
 }
 
-// R21. The context of entry index, as a slice of s; empty where it is refused or has none.
+/// R21. The context of entry index, as a slice of s; empty where it is refused or has none.
 #[tactic(auto, using(crate::proofs::Starts::context_stands))]
 pub fn entry_context<'a>(s: &'a [u8], index: usize) -> &'a [u8]
     ensures { GivesContext s.now index result.now }
 {
-    let context = context_place(s, index);
-    let start = context.start;
-    let end = start + context.length;
-    &s[start..end]
+    let Part { start, length } = context_place(s, index);
+    &s[start..start + length]
 }
 
 // The bytes from its start on, as many as the context has, are the context.

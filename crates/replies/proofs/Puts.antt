@@ -5,7 +5,7 @@ use mathlib.Core.List.{List, [], ◌∷◌, ◌++◌}
 use native.Mathlib.Omega.{arith}
 use native.Mathlib.Nat.{sub-zero}
 use lib.ListN.{length, take, length-append}
-use lib.Seq.{sets, length-take-le}
+use lib.Seq.{sets, take-length, length-take-le}
 use Rattle.laws.proofs.Stores.{sets_append}
 use Rattle.octets.specs.Numbers.{bytes16, bytes32}
 use Rattle.octets.proofs.Digits.{length_bytes16, length_bytes32}
@@ -17,30 +17,58 @@ use Rattle.layout.specs.Message.{head_bytes, beat_bytes, at_front}
 use Rattle.layout.proofs.Messages.{length_message, put_whole}
 use Rattle.subscription.specs.declared.Subscription.{Subscription}
 use Rattle.objects.specs.Methods.{mute_property}
-use Rattle.objects.specs.declared.Answer.{Answer}
-use Rattle.replies.specs.Bytes.{response_bytes, context_sent, subscriber_bytes, change_bytes, notification_entry, notification_bytes, keep_alive_bytes}
+use Rattle.objects.specs.Answers.{Carried, answer_in, answer_with, failed_of, identification_of, carried_count, carried_bytes}
+use Rattle.objects.specs.declared.Class.TheVariants as class
+use Rattle.objects.specs.declared.Reply.{Reply}
+use Rattle.objects.specs.declared.Reply.TheVariants as reply
+use Rattle.numbers.specs.Status.{carried_out, status_number}
+use Rattle.numbers.specs.declared.Status.{Status}
+use Rattle.std.proofs.Common.{Ok, Err}
+use Rattle.replies.specs.Bytes.{answer_told, response_bytes, context_sent, subscriber_bytes, change_bytes, notification_entry, notification_bytes, keep_alive_bytes}
 
 -- a run behind a run of known length
 behind : (vs ws l : List ℕ) (i j : ℕ) → i + length vs ≡ j → sets (sets l i vs) j ws ≡ sets l i (vs ++ ws)
 behind vs ws l i j e = ap (λ (k : ℕ). sets (sets l i vs) k ws) (sym e) ∙ sym (sets_append vs ws l i)
 
-module _ (at : ℕ) (handle : ℕ) (a : Answer) (b0 b1 b2 b3 b4 b5 : List ℕ) where
-  pub response_stores : b1 ≡ sets b0 at (bytes32 (least_response + a.length)) → b2 ≡ sets b1 (at + 4) (bytes32 handle)
-      → b3 ≡ sets b2 (at + 8) (a.status ∷ []) → b4 ≡ sets b3 (at + 9) (a.count ∷ []) → b5 ≡ sets b4 (at + 10) (take a.length a.bytes)
-      → b5 ≡ sets b0 at (response_bytes handle a)
+module _ (at handle status count : ℕ) (v b0 b1 b2 b3 b4 b5 : List ℕ) where
+  pub response_stores : b1 ≡ sets b0 at (bytes32 (least_response + length v)) → b2 ≡ sets b1 (at + 4) (bytes32 handle)
+      → b3 ≡ sets b2 (at + 8) (status ∷ []) → b4 ≡ sets b3 (at + 9) (count ∷ []) → b5 ≡ sets b4 (at + 10) v
+      → b5 ≡ sets b0 at (response_bytes handle (answer_told status count v))
   unfolding response_bytes
   response_stores e1 e2 e3 e4 e5 =
-      let z = bytes32 (least_response + a.length) in
+      let z = bytes32 (least_response + length v) in
       let h = bytes32 handle in
-      let v = take a.length a.bytes in
-      let lz = length_bytes32 (least_response + a.length) in
+      let lz = length_bytes32 (least_response + length v) in
       let lh = length_bytes32 handle in
-      e5 ∙ ap (λ (l : List ℕ). sets l (at + 10) v) e4 ∙ behind (a.count ∷ []) v b3 (at + 9) (at + 10) (omega arith)
-      ∙ ap (λ (l : List ℕ). sets l (at + 9) (a.count ∷ v)) e3 ∙ behind (a.status ∷ []) (a.count ∷ v) b2 (at + 8) (at + 9) (omega arith)
-      ∙ ap (λ (l : List ℕ). sets l (at + 8) (a.status ∷ a.count ∷ v)) e2 ∙ behind h (a.status ∷ a.count ∷ v) b1 (at + 4) (at + 8) (omega arith)
-      ∙ ap (λ (l : List ℕ). sets l (at + 4) (h ++ (a.status ∷ a.count ∷ v))) e1 ∙ behind z (h ++ (a.status ∷ a.count ∷ v)) b0 at (at + 4) (omega arith)
+      rw (take-length v) (
+      e5 ∙ ap (λ (l : List ℕ). sets l (at + 10) v) e4 ∙ behind (count ∷ []) v b3 (at + 9) (at + 10) (omega arith)
+      ∙ ap (λ (l : List ℕ). sets l (at + 9) (count ∷ v)) e3 ∙ behind (status ∷ []) (count ∷ v) b2 (at + 8) (at + 9) (omega arith)
+      ∙ ap (λ (l : List ℕ). sets l (at + 8) (status ∷ count ∷ v)) e2 ∙ behind h (status ∷ count ∷ v) b1 (at + 4) (at + 8) (omega arith)
+      ∙ ap (λ (l : List ℕ). sets l (at + 4) (h ++ (status ∷ count ∷ v))) e1 ∙ behind z (h ++ (status ∷ count ∷ v)) b0 at (at + 4) (omega arith)
+      )
 
-pub length_response : (handle : ℕ) (a : Answer) → a.length ≤ length a.bytes → length (response_bytes handle a) ≡ least_response + a.length
+-- what a command answers, as what is written
+pub reply_long : (r : Reply) → (answer_in (Ok r)).length ≡ length (carried_bytes r)
+unfolding answer_with
+reply_long r = refl
+
+pub reply_told : (handle : ℕ) (r : Reply) → response_bytes handle (answer_told carried_out (carried_count r) (carried_bytes r)) ≡ response_bytes handle (answer_in (Ok r))
+unfolding response_bytes answer_with identification_of bytes16
+reply_told handle reply.Done = refl
+reply_told handle (reply.Byte v) = refl
+reply_told handle (reply.Class class.Mute) = refl
+reply_told handle (reply.Class class.DeviceManager) = refl
+reply_told handle (reply.Class class.SubscriptionManager) = refl
+
+pub status_long : (s : Status) → (answer_in (Err s)).length ≡ 0
+unfolding failed_of
+status_long s = refl
+
+pub status_told : (handle : ℕ) (s : Status) → response_bytes handle (answer_told (status_number s) 0 []) ≡ response_bytes handle (answer_in (Err s))
+unfolding response_bytes failed_of
+status_told handle s = refl
+
+pub length_response : (handle : ℕ) (a : Carried) → a.length ≤ length a.bytes → length (response_bytes handle a) ≡ least_response + a.length
 unfolding response_bytes bytes32
 length_response handle a h = omega (arith, length-take-le a.length a.bytes h)
 

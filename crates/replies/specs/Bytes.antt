@@ -1,5 +1,5 @@
 -- R35, R48, R49. What the device sends, as bytes.
-use Rattle.std.specs.Prelude.{ℕ, ◌+◌, List, [], ◌∷◌, ◌++◌, take}
+use Rattle.std.specs.Prelude.{ℕ, ◌+◌, List, [], ◌∷◌, ◌++◌, take, length}
 use Rattle.octets.specs.Numbers.{bytes16, bytes32}
 use Rattle.heartbeat.specs.Beat.{form_of, value_of}
 use Rattle.heartbeat.specs.declared.Heartbeat.{Heartbeat}
@@ -7,14 +7,18 @@ use Rattle.frame.specs.Limits.{least_notification, least_response, notification,
 use Rattle.layout.specs.Message.{message, beat_bytes}
 use Rattle.subscription.specs.declared.Subscription.{Subscription}
 use Rattle.objects.specs.Methods.{mute_property}
-use Rattle.objects.specs.declared.Answer.{Answer}
+use Rattle.objects.specs.Answers.{Carried}
 
 -- R63. The least output of delivery and take.
 abbrev pub least_output : ℕ
 least_output = 4096
 
+-- R35. The answer of that status with these parameters.
+abbrev pub answer_told : ℕ → ℕ → List ℕ → Carried
+answer_told status count parameters = record { status = status; count = count; length = length parameters; bytes = parameters }
+
 -- R35. A response: its handle, status and parameters.
-unfoldable pub response_bytes : ℕ → Answer → List ℕ
+unfoldable pub response_bytes : ℕ → Carried → List ℕ
 response_bytes handle a =
     bytes32 (least_response + a.length) ++ (bytes32 handle ++ (a.status ∷ a.count ∷ take a.length a.bytes))
 

@@ -1,4 +1,4 @@
-// What the device sends, written into a lent output.
+//! What the device sends, written into a lent output.
 #![tactic(auto)]
 
 ghost use Rattle.std.specs.Prelude.{◌≡◌, ◌+◌, ◌≤◌, ◌++◌, length, take};
@@ -6,11 +6,13 @@ ghost use Rattle.std.proofs.lemmas.List.Edits.{sets};
 ghost use Rattle.octets.specs.Numbers.{bytes16};
 ghost use Rattle.frame.specs.Limits.{least_response, greatest_context};
 ghost use Rattle.layout.specs.Message.{at_front};
-ghost use Rattle.replies.specs.Bytes.{response_bytes, subscriber_bytes, change_bytes, notification_bytes, keep_alive_bytes};
+ghost use Rattle.objects.specs.Answers.{answer_in};
+ghost use Rattle.replies.specs.Bytes.{answer_told, response_bytes, subscriber_bytes, change_bytes, notification_bytes, keep_alive_bytes};
 
 use frame::places;
 use heartbeat::Heartbeat;
-use objects::Answer;
+use numbers::Status;
+use objects::Reply;
 use subscription::Subscription;
 
 // A notification's entry of six bytes of event parameters, and its message, without the context.
@@ -38,21 +40,43 @@ const VALUE: usize = PROPERTY + 4;
 
 const CHANGE_TYPE: usize = VALUE + 1;
 
-// One response from place at on: the place behind it.
+/// One response from place `at` on, of these parameter bytes: the place behind it.
 #[tactic(auto, using(crate::proofs::Puts::response_stores))]
-pub fn put_response(out: &mut [u8], at: usize, handle: u32, answer: Answer) -> usize
-    requires { (answer.length ≤ 12) × (at + 22 ≤ length out.old) }
-    ensures { (result ≡ at + (least_response + answer.length))
-        × (out.new ≡ sets out.old at (response_bytes handle answer)) }
+pub fn put_response(
+    out: &mut [u8],
+    at: usize,
+    handle: u32,
+    status: u8,
+    count: u8,
+    parameters: &[u8],
+) -> usize
+    requires { (length parameters.now ≤ 12) × (at + 22 ≤ length out.old) }
+    ensures { (result ≡ at + (least_response + length parameters.now))
+        × (out.new ≡ sets out.old at (response_bytes handle (answer_told status count parameters.now))) }
 {
-    let n = answer.length as usize;
-    let bytes = answer.bytes;
-    octets::put32(out, at, (frame::LEAST_RESPONSE + n) as u32);
+    let length = frame::LEAST_RESPONSE + parameters.len();
+    octets::put32(out, at, length as u32);
     octets::put32(out, at + places::HANDLE, handle);
-    octets::put8(out, at + places::STATUS, answer.status);
-    octets::put8(out, at + places::RESPONSE_COUNT, answer.count);
-    octets::copy(&bytes[0..n], out, at + frame::LEAST_RESPONSE);
-    at + (frame::LEAST_RESPONSE + n)
+    octets::put8(out, at + places::STATUS, status);
+    octets::put8(out, at + places::RESPONSE_COUNT, count);
+    octets::copy(parameters, out, at + frame::LEAST_RESPONSE);
+    at + length
+}
+
+/// The response to a command from place `at` on, with a status or what it carries: the place behind it.
+#[tactic(auto, using(crate::proofs::Puts::reply_told, crate::proofs::Puts::reply_long, crate::proofs::Puts::status_told, crate::proofs::Puts::status_long))]
+pub fn put_answer(out: &mut [u8], at: usize, handle: u32, answer: Result<Reply, Status>) -> usize
+    requires { at + 22 ≤ length out.old }
+    ensures { (result ≡ at + (least_response + (answer_in answer).length))
+        × (out.new ≡ sets out.old at (response_bytes handle (answer_in answer))) }
+{
+    match answer {
+        Ok(reply) => {
+            let status = Status::CarriedOut.number();
+            put_response(out, at, handle, status, reply.count(), reply.parameters())
+        }
+        Err(status) => put_response(out, at, handle, status.number(), 0, &[]),
+    }
 }
 
 // Behind its count.
@@ -61,9 +85,8 @@ fn put_context(out: &mut [u8], count: u8, context: &[u8; 64])
     requires { (count ≤ greatest_context) × (103 ≤ length out.old) }
     ensures { out.new ≡ sets out.old 23 (bytes16 count ++ take count context.now) }
 {
-    let n = count as usize;
     octets::put16(out, CONTEXT_COUNT, count as u16);
-    octets::copy(&context[0..n], out, CONTEXT);
+    octets::copy(&context[..count as usize], out, CONTEXT);
 }
 
 #[tactic(auto, using(crate::proofs::Puts::subscriber_stores))]
@@ -92,7 +115,7 @@ fn put_change(out: &mut [u8], at: usize, s: &Subscription, value: u8)
     octets::put8(out, at + CHANGE_TYPE, 1);
 }
 
-// The notification of a mute's value to a subscriber, at the output's front: its length.
+/// The notification of a mute's value to a subscriber, at the output's front: its length.
 #[tactic(auto, using(crate::proofs::Puts::length_notification, crate::proofs::Puts::notification_stores))]
 pub fn put_notification(out: &mut [u8], s: &Subscription, value: u8) -> usize
     requires { (s.now.context_count ≤ greatest_context) × (103 ≤ length out.old) }
@@ -107,7 +130,7 @@ pub fn put_notification(out: &mut [u8], s: &Subscription, value: u8) -> usize
     length
 }
 
-// A keep-alive that carries a heartbeat, at the output's front: its length.
+/// A keep-alive that carries a heartbeat, at the output's front: its length.
 #[tactic(auto, using(octets::proofs::Digits::length_bytes16, octets::proofs::Digits::length_bytes32, layout::proofs::Messages::length_message), unfolding(crate::specs::Bytes::keep_alive_bytes, heartbeat::specs::Beat::form_of, heartbeat::specs::Beat::value_of, layout::specs::Message::beat_bytes))]
 pub fn put_keep_alive(out: &mut [u8], h: Heartbeat) -> usize
     requires { 14 ≤ length out.old }

@@ -13,8 +13,10 @@ use Rattle.octets.proofs.Scans.{length_zeros}
 use Rattle.mechanism.specs.Datagram.{resets}
 use Rattle.area.specs.Area.{area_bytes, area_sound}
 use Rattle.endpoint.specs.State.{fresh_state, record_obeys}
-use Rattle.numbers.specs.Refusal.{bad_record, bad_area}
-use Rattle.endpoint.specs.Outcome.{outcome, refused}
+use Rattle.numbers.specs.Refusal.{refusal_numbers}
+use Rattle.numbers.specs.declared.Refusal.{Refusal}
+use Rattle.numbers.specs.declared.Refusal.TheVariants as refusals
+use Rattle.endpoint.specs.Outcome.{outcome}
 use Rattle.endpoint.specs.declared.Record.{Record}
 use Rattle.area.proofs.Lies.{area_long}
 use Rattle.reset.specs.Datagram.{restarted, datagram_call}
@@ -26,33 +28,30 @@ all_cleared area p e q =
     let l : length p ≡ area_bytes = ap length z ∙ length_zeros area_bytes in
     sets_mid p area 0 area_bytes l (omega arith) ∙ sets_all p area (l ∙ sym e) ∙ z ∙ ap zeros (sym e)
 
--- b is what the call that tests the record gave
-module _ (r : Record) (b : Bool) (tested : b ≡ record_obeys r) where
-  pub datagram_bad : b ≡ false → (area datagram : List ℕ) → refused bad_record r area [] ≡ datagram_call r area datagram
+-- each test is false or true as its check found it
+module _ (r : Record) (area datagram : List ℕ) where
+  pub datagram_bad : record_obeys r ≡ false → (e : Refusal) → e ≡ refusals.BadRecord
+      → outcome (refusal_numbers e) r area [] ≡ datagram_call r area datagram
   unfolding datagram_call
-  datagram_bad t area datagram = rw (← tested, t)
+  datagram_bad t e q = rw (q, t)
 
-  -- s is what the call that tests the area gave
-  module _ (t : b ≡ true) (area part : List ℕ) (whole : part ≡ area) (s : Bool) (sounded : s ≡ area_sound r.held part) where
-    sound : area_sound r.held area ≡ s
-    sound = rw (← whole) (sym sounded)
-
-    pub datagram_area : s ≡ false → (datagram : List ℕ) → refused bad_area r area [] ≡ datagram_call r area datagram
+  module _ (t : record_obeys r ≡ true) where
+    pub datagram_area : area_sound r.held area ≡ false → (e : Refusal) → e ≡ refusals.BadArea
+        → outcome (refusal_numbers e) r area [] ≡ datagram_call r area datagram
     unfolding datagram_call
-    datagram_area u datagram = rw (← tested, t, sound, u)
+    datagram_area u e q = rw (q, t, u)
 
-    module _ (u : s ≡ true) where
-      pub sound_long : length area ≡ area_bytes
-      sound_long = area_long r.held area (sound ∙ u)
+    module _ (u : area_sound r.held area ≡ true) where
+      pub area_whole : length area ≡ area_bytes
+      area_whole = area_long r.held area u
 
       -- m is what the mechanism said of the datagram
-      pub datagram_nothing : (datagram : List ℕ) (m : Bool) → m ≡ resets r.device.mechanism datagram → m ≡ false
+      pub datagram_nothing : (m : Bool) → m ≡ resets r.device.mechanism datagram → m ≡ false
           → outcome (0 ∷ 0 ∷ []) r area [] ≡ datagram_call r area datagram
       unfolding datagram_call
-      datagram_nothing datagram m q v = rw (← tested, t, sound, u, ← q, v)
+      datagram_nothing m q v = rw (t, u, ← q, v)
 
-      pub datagram_done : (datagram : List ℕ) (m : Bool) → m ≡ resets r.device.mechanism datagram → m ≡ true → (z : Record) (next : List ℕ)
+      pub datagram_done : (m : Bool) → m ≡ resets r.device.mechanism datagram → m ≡ true → (z : Record) (next : List ℕ)
           → z ≡ fresh_state r.device.reading → next ≡ zeros (length area) → outcome (0 ∷ 1 ∷ []) z next [] ≡ datagram_call r area datagram
       unfolding datagram_call restarted
-      datagram_done datagram m q v z next x y =
-          rw (← tested, t, sound, u, ← q, v, x, y, sound_long)
+      datagram_done m q v z next x y = rw (t, u, ← q, v, x, y, area_whole)

@@ -3,13 +3,14 @@ use Rattle.std.specs.Prelude.{ℕ, ◌≡◌, cond, List, []}
 use Rattle.octets.specs.Zeros.{zeros}
 use Rattle.mechanism.specs.Datagram.{resets}
 use Rattle.area.specs.Area.{area_bytes, area_sound}
-use Rattle.answers.specs.Numbers.{resetting_numbers}
+use Rattle.answers.specs.Numbers.{answer_numbers, resetting_numbers}
+use Rattle.answers.specs.declared.Resetting.{Resetting}
 use Rattle.answers.specs.declared.Resetting.TheVariants as resetting
 use Rattle.endpoint.specs.State.{fresh_state, record_obeys}
 use Rattle.numbers.specs.Refusal.{bad_record, bad_area}
 use Rattle.endpoint.specs.Outcome.{Outcome, outcome, refused}
 use Rattle.endpoint.specs.declared.Record.{Record}
-use Rattle.reset.specs.declared.Reset.{Reset}
+use Rattle.endpoint.specs.declared.Handed.{Handed}
 
 -- R76. A reset: a fresh record at the last reading, and an area of zeros.
 unfoldable pub restarted : Record → Outcome
@@ -25,5 +26,6 @@ datagram_call r area datagram =
     (refused bad_record r area [])
 
 -- R68, R77. Datagram gives r and leaves the area so.
-abbrev pub DatagramGives : Record → List ℕ → List ℕ → Reset → List ℕ → Type 0
-DatagramGives state area datagram r left = outcome (resetting_numbers r.answer) r.state left [] ≡ datagram_call state area datagram
+abbrev pub DatagramGives : Record → List ℕ → List ℕ → Handed Resetting → List ℕ → Type 0
+DatagramGives state area datagram r left =
+    outcome (answer_numbers resetting_numbers r.answer) r.state left [] ≡ datagram_call state area datagram

@@ -1,45 +1,42 @@
-// A datagram that came on the reset mechanism's port: the right one starts the device anew.
+//! A datagram that came on the reset mechanism's port: the right one starts the device anew.
 #![tactic(auto)]
 
 ghost use Rattle.std.specs.Prelude.{◌≡◌, []};
-ghost use Rattle.answers.specs.Numbers.{resetting_numbers};
+ghost use Rattle.answers.specs.Numbers.{answer_numbers, resetting_numbers};
 ghost use Rattle.endpoint.specs.Outcome.{outcome};
 ghost use Rattle.reset.specs.Datagram.{datagram_call, DatagramGives};
 ghost use Rattle.reset.specs.Tell.{ResettingsTell};
 
 use answers::Resetting;
-use endpoint::Record;
+use endpoint::{Handed, Record};
+use numbers::Refusal;
 
-#[derive(Clone, Copy)]
-pub struct Reset {
-    pub state: Record,
-    pub answer: Resetting,
-}
-
-#[tactic(auto, using(laws::proofs::Parts::rest, crate::proofs::Datagrams::sound_long, crate::proofs::Datagrams::all_cleared, crate::proofs::Datagrams::datagram_bad, crate::proofs::Datagrams::datagram_area, crate::proofs::Datagrams::datagram_nothing, crate::proofs::Datagrams::datagram_done))]
-pub fn try_datagram(state: &mut Record, area: &mut [u8], datagram: &[u8]) -> Resetting
-    ensures { outcome (resetting_numbers result) state.new area.new [] ≡ datagram_call state.old area.old datagram.now }
+/// A datagram's bytes: the armed mechanism's own start the device anew at its last reading and zero the area, any other changes
+/// nothing. Refused by `BadRecord` and `BadArea`, in this order.
+#[tactic(auto, using(crate::proofs::Datagrams::area_whole, crate::proofs::Datagrams::all_cleared, crate::proofs::Datagrams::datagram_bad, crate::proofs::Datagrams::datagram_area, crate::proofs::Datagrams::datagram_nothing, crate::proofs::Datagrams::datagram_done))]
+pub fn try_datagram(
+    state: &mut Record,
+    area: &mut [u8],
+    datagram: &[u8],
+) -> Result<Resetting, Refusal>
+    ensures { outcome (answer_numbers resetting_numbers result) state.new area.new [] ≡ datagram_call state.old area.old datagram.now }
 {
-    if !state.keeps_rules() {
-        return Resetting::BadRecord;
-    }
-    if !area::area_sound(&area[0..], state.held) {
-        return Resetting::BadArea;
-    }
+    state.check()?;
+    state.check_area(area)?;
     if !state.device.mechanism.resets(datagram) {
-        return Resetting::Nothing;
+        return Ok(Resetting::Nothing);
     }
     octets::clear(&mut area[0..area::AREA]);
     *state = Record::fresh(state.device.reading);
-    Resetting::Done
+    Ok(Resetting::Done)
 }
 
-// The right one starts the device anew, at its last reading; any other changes nothing.
-pub fn datagram(mut state: Record, area: &mut [u8], datagram: &[u8]) -> Reset
+/// `try_datagram` of a record that is passed and handed back.
+pub fn datagram(mut state: Record, area: &mut [u8], datagram: &[u8]) -> Handed<Resetting>
     ensures { DatagramGives state area.old datagram.now result area.new }
 {
     let answer = try_datagram(&mut state, area, datagram);
-    Reset { state, answer }
+    Handed { state, answer }
 }
 
 // Two results of a datagram that its promise allows are equal.

@@ -6,6 +6,7 @@ use native.Mathlib.Omega.{arith}
 use native.Mathlib.Nat.{not-suc-le-zero}
 use borrow.Author.Tests.{le-leb, lt-leb, lt-ltb, le-ltb, ne_eqb}
 use lib.ListN.{length, get_or, take, drop, length-drop}
+use lib.Seq.{length-take-le, take_all}
 use Rattle.octets.specs.Numbers.{be32_at}
 use Rattle.stream.specs.Calls.{deliver, ask}
 use Rattle.endpoint.specs.Outcome.{outcome}
@@ -16,7 +17,9 @@ use Rattle.reset.specs.Datagram.{datagram_call}
 use Rattle.endpoint.specs.declared.Record.{Record}
 use Rattle.promise.specs.Rulebook.{opening, closing, ticking, taking, datagram}
 use Rattle.promise.specs.Calls.{call_of, run_calls}
-use Rattle.script.specs.Script.{Stage, stage, output_after, stage_of, sent_by, call_by, first_size, call_in, behind, calls_from, calls_in, last_output, last_answer, end_of, script_of}
+use Rattle.script.specs.declared.Call.{Call}
+use Rattle.script.specs.declared.Call.TheVariants.{Open, Close, Tick, Take}
+use Rattle.script.specs.Script.{Stage, stage, output_after, stage_of, sent_by, call_by, call_lent, call_size, PieceIs, FirstCall, first_size, call_in, behind, calls_from, calls_in, last_output, last_answer, end_of, script_of}
 use Rattle.answers.specs.Numbers.{numbers_with, numbers_of}
 use Rattle.answers.specs.declared.Numbers.{Numbers}
 
@@ -82,27 +85,65 @@ module _ (kind n : ℕ) (piece output : List ℕ) where
   unfolding sent_by
   is_deliver h = simp (ne_eqb kind 4 h)
 
--- how long the first call is, once each test has gone its way
-module _ (s : List ℕ) where
-  pub head_alone : 6 ≤ length s → get_or s 0 0 ≤ 3 → (6 ≡ first_size s) × (6 ≤ 6) × (6 ≤ length s)
-  unfolding first_size
-  head_alone l h = (simp (le-leb (get_or s 0 0) 3 h), omega arith, l)
+six : (n : ℕ) → n ≡ 6 + n - 6
+six n = omega arith
 
-  pub all_left : 6 ≤ length s → 3 < get_or s 0 0 → length s < 6 + be32_at s 2
-      → (length s ≡ first_size s) × (6 ≤ length s) × (length s ≤ length s)
-  unfolding first_size
-  all_left l h k = (simp (lt-leb (get_or s 0 0) 3 h, lt-ltb (length s) (6 + be32_at s 2) k), l, omega arith)
+-- the piece behind the first six bytes, of a kind that has one
+module _ (s : List ℕ) (l : 6 ≤ length s) (h : 3 < get_or s 0 0) where
+  piece_size : (m : ℕ) → m ≡ first_size s → 6 ≤ m → m ≤ length s → (piece : List ℕ) → piece ≡ take (m - 6) (drop 6 s) → PieceIs s piece
+  piece_size m e i j piece p =
+      record {
+        bytes = rw (← e) p;
+        size = rw (← e) (omega (arith, ap length p, length-take-le (m - 6) (drop 6 s) (omega (arith, length-drop 6 s))));
+        within = rw (← e) j;
+      }
 
-  pub as_asked : (end : ℕ) → end ≡ 6 + be32_at s 2 → 3 < get_or s 0 0 → end ≤ length s
-      → (end ≡ first_size s) × (6 ≤ end) × (end ≤ length s)
+  pub piece_all : length s - 6 < be32_at s 2 → PieceIs s (take (length s - 6) (drop 6 s))
   unfolding first_size
-  as_asked end e h k = (rw (← e) (simp (lt-leb (get_or s 0 0) 3 h, le-ltb (length s) end k)), omega arith, k)
+  piece_all k =
+      piece_size (length s) (simp (lt-leb (get_or s 0 0) 3 h, lt-ltb (length s) (6 + be32_at s 2) (omega arith))) l (omega arith) _ refl
 
-pub first_stage : (x : Stage) (r : Record) (area s output piece : List ℕ) (kind n value : ℕ)
-    → x ≡ stage_of (call_by kind n value piece output) r area output → kind ≡ get_or s 0 0 → n ≡ get_or s 1 0 → value ≡ be32_at s 2
-    → piece ≡ take (first_size s - 6) (drop 6 s) → x ≡ stage_of (call_in s output) r area output
-unfolding call_in
-first_stage x r area s output piece kind n value e k m v p = rw (← k, ← m, ← v, ← p) e
+  pub piece_asked : (n : ℕ) → n ≡ be32_at s 2 → n ≤ length s - 6 → PieceIs s (take n (take (length s - 6) (drop 6 s)))
+  unfolding first_size
+  piece_asked n e k =
+      rw (take_all (length s - 6) (drop 6 s) (omega (arith, length-drop 6 s)))
+      (piece_size (6 + n) (rw e (simp (lt-leb (get_or s 0 0) 3 h, le-ltb (length s) (6 + be32_at s 2) (omega arith)))) (omega arith) (omega arith) _ (ap (λ (m : ℕ). take m (drop 6 s)) (six n)))
+
+-- the first call, by its kind
+module _ (s : List ℕ) (l : 6 ≤ length s) where
+  head_alone : get_or s 0 0 ≤ 3 → 6 ≡ first_size s
+  unfolding first_size
+  head_alone h = simp (le-leb (get_or s 0 0) 3 h)
+
+  alone : (c : Call) → get_or s 0 0 ≤ 3 → call_size c ≡ 6 → ((output : List ℕ) → call_lent c output ≡ call_in s output) → FirstCall s c
+  alone c h z e = let w = head_alone h in record { call = e; size = z ∙ w; some = omega arith; within = omega arith }
+
+  pub first_open : get_or s 0 0 ≡ 0 → FirstCall s Open
+  unfolding call_in
+  first_open e = alone Open (omega arith) refl (λ o. sym (is_open (get_or s 0 0) _ _ _ o e))
+
+  pub first_close : (n : ℕ) → get_or s 0 0 ≡ 1 → n ≡ get_or s 1 0 → FirstCall s (Close n)
+  unfolding call_in
+  first_close n e m = alone (Close n) (omega arith) refl (λ o. rw m (sym (is_close (get_or s 0 0) _ _ _ o e)))
+
+  pub first_tick : (v : ℕ) → get_or s 0 0 ≡ 2 → v ≡ be32_at s 2 → FirstCall s (Tick v)
+  unfolding call_in
+  first_tick v e m = alone (Tick v) (omega arith) refl (λ o. rw m (sym (is_tick (get_or s 0 0) _ _ _ o e)))
+
+  pub first_take : get_or s 0 0 ≡ 3 → FirstCall s Take
+  unfolding call_in
+  first_take e = alone Take (omega arith) refl (λ o. sym (is_take (get_or s 0 0) _ _ _ o e))
+
+  pub first_sent : (c : Call) (piece : List ℕ) → 3 < get_or s 0 0 → PieceIs s piece → call_size c ≡ 6 + length piece
+      → ((output : List ℕ) → call_lent c output ≡ sent_by (get_or s 0 0) (get_or s 1 0) piece output) → FirstCall s c
+  unfolding call_in
+  first_sent c piece h p z e =
+      record {
+        call = λ o. e o ∙ rw p.bytes (sym (is_sent (get_or s 0 0) _ _ _ o h));
+        size = z ∙ p.size;
+        some = omega (arith, p.size);
+        within = p.within;
+      }
 
 -- ---- the loop: last stands where the script's first calls left it, t is what is left
 

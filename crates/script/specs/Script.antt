@@ -1,5 +1,5 @@
 -- R82. A script of calls in bytes, run on one record, one area and one output.
-use Rattle.std.specs.Prelude.{ℕ, zero, suc, ◌+◌, ◌-◌, cond, List, [], ◌∷◌, map, length, get_or, take, drop, eqb, ltb, leb}
+use Rattle.std.specs.Prelude.{ℕ, zero, suc, ◌+◌, ◌-◌, ◌≤◌, ◌≡◌, cond, List, [], ◌∷◌, map, length, get_or, take, drop, eqb, ltb, leb}
 use Rattle.octets.specs.Numbers.{be32_at}
 use Rattle.stream.specs.Calls.{deliver, ask}
 use Rattle.endpoint.specs.declared.Record.{Record}
@@ -8,6 +8,8 @@ use Rattle.promise.specs.Calls.{HostCall, call_of, run_calls}
 use Rattle.promise.specs.Whole.{host_sees}
 use Rattle.answers.specs.Numbers.{numbers_of}
 use Rattle.answers.specs.declared.Numbers.{Numbers}
+use Rattle.script.specs.declared.Call.{Call}
+use Rattle.script.specs.declared.Call.TheVariants.{Open, Close, Tick, Take, Datagram, Deliver}
 
 -- R82. How a script stands: the record, the area, the output, and the last call's answer.
 pub record Stage : Type 0 where
@@ -87,6 +89,37 @@ call_in s output = call_by (get_or s 0 0) (get_or s 1 0) (be32_at s 2) (take (fi
 -- R82. The script behind its first call.
 unfoldable pub behind : List ℕ → List ℕ
 behind s = drop (first_size s) s
+
+-- R82. A call of a script, lent this output.
+abbrev pub call_lent : Call → List ℕ → HostCall
+call_lent Open output = ask opening
+call_lent (Close n) output = ask (closing n)
+call_lent (Tick reading) output = ask (ticking reading)
+call_lent Take output = ask (taking output)
+call_lent (Datagram piece) output = ask (datagram piece.now)
+call_lent (Deliver n piece) output = deliver n piece.now output
+
+-- R82. How many bytes it has.
+abbrev pub call_size : Call → ℕ
+call_size Open = call_head
+call_size (Close n) = call_head
+call_size (Tick reading) = call_head
+call_size Take = call_head
+call_size (Datagram piece) = call_head + length piece.now
+call_size (Deliver n piece) = call_head + length piece.now
+
+-- R82. These bytes are the piece of the first call of s, if its kind has one.
+pub record PieceIs (s piece : List ℕ) : Type 0 where
+  pub bytes : piece ≡ take (first_size s - call_head) (drop call_head s)
+  pub size : call_head + length piece ≡ first_size s
+  pub within : first_size s ≤ length s
+
+-- R82. It is the first call of s, whatever output it is lent.
+pub record FirstCall (s : List ℕ) (c : Call) : Type 0 where
+  pub call : (output : List ℕ) → call_lent c output ≡ call_in s output
+  pub size : call_size c ≡ first_size s
+  pub some : call_head ≤ first_size s
+  pub within : first_size s ≤ length s
 
 -- R82. A script's calls, at most so many, each lent the output as the one before left it.
 unfoldable pub calls_from : ℕ → Record → List ℕ → List ℕ → List ℕ → List HostCall

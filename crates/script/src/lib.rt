@@ -1,17 +1,15 @@
-// A script: calls written in bytes, made one after another on one record, one area and one output.
+//! A script: calls written in bytes, made one after another on one record, one area and one output.
 #![tactic(auto)]
 
-ghost use Rattle.std.specs.Prelude.{◌≡◌, ◌≤◌, length};
-ghost use Rattle.stream.specs.Calls.{deliver, ask};
-ghost use Rattle.promise.specs.Rulebook.{opening, closing, ticking, taking, datagram};
+ghost use Rattle.std.specs.Prelude.{◌≡◌, ◌≤◌, ◌<◌, length, get_or, MatchResult};
 ghost use Rattle.script.specs.Chain.{ScriptsRun};
-ghost use Rattle.script.specs.Script.{stage, stage_of, sent_by, call_by, call_in, first_size};
+ghost use Rattle.script.specs.Script.{stage, stage_of, call_head, call_take, call_lent, call_size, PieceIs, FirstCall};
 ghost use Rattle.script.specs.Tell.{RunGives, RunsTell};
 
-use answers::Numbers;
+use answers::{Numbers, numbers_told};
 use endpoint::Record;
 
-// A call starts with six bytes: its kind, a connection's number, and a number of 32 bits.
+/// A call starts with six bytes: its kind, a connection's number, and a number of 32 bits.
 pub const HEAD: usize = 6;
 
 pub const OPEN: u8 = 0;
@@ -22,178 +20,113 @@ pub const TICK: u8 = 2;
 
 pub const TAKE: u8 = 3;
 
-// On the reset mechanism's port; any kind above delivers to a connection.
+/// On the reset mechanism's port; any kind above delivers to a connection.
 pub const DATAGRAM: u8 = 4;
 
+/// What a script leaves.
 #[derive(Clone, Copy)]
 pub struct Played {
     pub state: Record,
-    // of the last call
+    /// Of the last call; zeros where there was none.
     pub answer: Numbers,
 }
 
-fn open(state: Record, area: &mut [u8], output: &mut [u8]) -> Played
-    ensures { stage result.state area.new output.new result.answer
-        ≡ stage_of (ask opening) state area.old output.old }
-{
-    let opened = state.open();
-    let told = opened.answer;
-    let answer = told.numbers();
-    let state = opened.state;
-    Played { state, answer }
+/// The bytes are fewer than any call has.
+#[derive(Clone, Copy, Debug, PartialEq, Eq)]
+pub struct TooShort;
+
+/// A call of a host, as a script writes it.
+#[derive(Clone, Copy, Debug, PartialEq, Eq)]
+pub enum Call<'a> {
+    Open,
+    /// The host's close of that connection.
+    Close(u8),
+    /// A clock reading, in milliseconds.
+    Tick(u32),
+    Take,
+    /// A datagram on the reset mechanism's port.
+    Datagram(&'a [u8]),
+    /// A piece that came on that connection.
+    Deliver(u8, &'a [u8]),
 }
 
-fn close(state: Record, area: &mut [u8], n: u8, output: &mut [u8]) -> Played
-    ensures { stage result.state area.new output.new result.answer
-        ≡ stage_of (ask (closing n)) state area.old output.old }
+// What stands behind the first six bytes: as many bytes as their number says, or as are left.
+fn piece(s: &[u8]) -> &[u8]
+    requires { 6 ≤ length s.now }
+    ensures { call_take < get_or s.now 0 0 → PieceIs s.now result.now }
 {
-    let closed = state.close(area, n);
-    let told = closed.answer;
-    let answer = told.numbers();
-    let state = closed.state;
-    Played { state, answer }
+    let rest = &s[HEAD..];
+    let n = octets::be32(s, 2) as usize;
+    if rest.len() < n { rest } else { &rest[..n] }
 }
 
-fn tick(state: Record, area: &mut [u8], reading: u32, output: &mut [u8]) -> Played
-    ensures { stage result.state area.new output.new result.answer
-        ≡ stage_of (ask (ticking reading)) state area.old output.old }
-{
-    let ticked = state.tick(area, reading);
-    let told = ticked.answer;
-    let answer = told.numbers();
-    let state = ticked.state;
-    Played { state, answer }
-}
+// The first call of a script.
+impl<'a> TryFrom<&'a [u8]> for Call<'a> {
+    type Error = TooShort;
 
-fn take(state: Record, area: &mut [u8], output: &mut [u8]) -> Played
-    ensures { stage result.state area.new output.new result.answer
-        ≡ stage_of (ask (taking output.old)) state area.old output.old }
-{
-    let taken = state.take(output);
-    let told = taken.answer;
-    let answer = told.numbers();
-    let state = taken.state;
-    Played { state, answer }
-}
+    ghost try_from_gives = { λ s r. MatchResult r (FirstCall s.now) (λ _. length s.now < call_head) };
 
-fn datagram(state: Record, area: &mut [u8], piece: &[u8], output: &mut [u8]) -> Played
-    ensures { stage result.state area.new output.new result.answer
-        ≡ stage_of (ask (datagram piece.now)) state area.old output.old }
-{
-    let heeded = reset::datagram(state, area, piece);
-    let told = heeded.answer;
-    let answer = told.numbers();
-    let state = heeded.state;
-    Played { state, answer }
-}
-
-fn deliver(state: Record, area: &mut [u8], n: u8, piece: &[u8], output: &mut [u8]) -> Played
-    ensures { stage result.state area.new output.new result.answer
-        ≡ stage_of (deliver n piece.now output.old) state area.old output.old }
-{
-    let delivered = state.deliver(area, n, piece, output);
-    let told = delivered.answer;
-    let answer = told.numbers();
-    let state = delivered.state;
-    Played { state, answer }
-}
-
-// The kinds that have a piece.
-#[tactic(auto, using(crate::proofs::Stages::is_datagram, crate::proofs::Stages::is_deliver))]
-fn send(state: Record, area: &mut [u8], kind: u8, n: u8, piece: &[u8], output: &mut [u8]) -> Played
-    ensures { stage result.state area.new output.new result.answer
-        ≡ stage_of (sent_by kind n piece.now output.old) state area.old output.old }
-{
-    if kind == DATAGRAM {
-        return datagram(state, area, piece, output);
-    }
-    deliver(state, area, n, piece, output)
-}
-
-#[tactic(auto, using(crate::proofs::Stages::is_open, crate::proofs::Stages::is_close, crate::proofs::Stages::is_tick, crate::proofs::Stages::is_take, crate::proofs::Stages::is_sent))]
-fn call(
-    state: Record,
-    area: &mut [u8],
-    kind: u8,
-    n: u8,
-    value: u32,
-    piece: &[u8],
-    output: &mut [u8],
-) -> Played
-    ensures { stage result.state area.new output.new result.answer
-        ≡ stage_of (call_by kind n value piece.now output.old) state area.old output.old }
-{
-    if kind == OPEN {
-        return open(state, area, output);
-    }
-    if kind == CLOSE {
-        return close(state, area, n, output);
-    }
-    if kind == TICK {
-        return tick(state, area, value, output);
-    }
-    if kind == TAKE {
-        return take(state, area, output);
-    }
-    send(state, area, kind, n, piece, output)
-}
-
-// How many bytes the first call of a script has.
-#[tactic(auto, using(crate::proofs::Stages::head_alone, crate::proofs::Stages::all_left, crate::proofs::Stages::as_asked))]
-fn first_size(script: &[u8]) -> usize
-    requires { 6 ≤ length script.now }
-    ensures { (result ≡ first_size script.now) × (6 ≤ result) × (result ≤ length script.now) }
-{
-    if script[0] <= TAKE {
-        return HEAD;
-    }
-    let end = HEAD + octets::be32(script, 2) as usize;
-    if script.len() < end {
-        script.len()
-    } else {
-        end
+    fn try_from(s: &'a [u8]) -> Result<Call<'a>, TooShort> {
+        if s.len() < HEAD {
+            return Err(TooShort);
+        }
+        match s[0] {
+            OPEN => Ok(Call::Open),
+            CLOSE => Ok(Call::Close(s[1])),
+            TICK => Ok(Call::Tick(octets::be32(s, 2))),
+            TAKE => Ok(Call::Take),
+            DATAGRAM => Ok(Call::Datagram(piece(s))),
+            _ => Ok(Call::Deliver(s[1], piece(s))),
+        }
     }
 }
 
-#[tactic(auto, using(crate::proofs::Stages::first_stage))]
-fn first(state: Record, area: &mut [u8], script: &[u8], output: &mut [u8]) -> Played
-    requires { 6 ≤ length script.now }
-    ensures { stage result.state area.new output.new result.answer
-        ≡ stage_of (call_in script.now output.old) state area.old output.old }
-{
-    let end = first_size(script);
-    let value = octets::be32(script, 2);
-    call(
-        state,
-        area,
-        script[0],
-        script[1],
-        value,
-        &script[HEAD..end],
-        output,
-    )
+impl Call<'_> {
+    // How many bytes it has in a script, of which there are no more than a slice can have.
+    fn size(&self) -> usize
+        requires { call_size self.now < 18446744073709551616 }
+        ensures { result ≡ call_size self.now }
+    {
+        match self {
+            Call::Datagram(piece) => HEAD + piece.len(),
+            Call::Deliver(_, piece) => HEAD + piece.len(),
+            _ => HEAD,
+        }
+    }
+
+    // Makes the call. The answer is its numbers.
+    fn make(self, state: &mut Record, area: &mut [u8], output: &mut [u8]) -> Numbers
+        ensures { stage state.new area.new output.new result ≡ stage_of (call_lent self.entry output.old) state.old area.old output.old }
+    {
+        match self {
+            Call::Open => numbers_told(state.try_open()),
+            Call::Close(n) => numbers_told(state.try_close(area, n)),
+            Call::Tick(reading) => numbers_told(state.try_tick(area, reading)),
+            Call::Take => numbers_told(state.try_take(output)),
+            Call::Datagram(piece) => numbers_told(reset::try_datagram(state, area, piece)),
+            Call::Deliver(n, piece) => numbers_told(state.try_deliver(area, n, piece, output)),
+        }
+    }
 }
 
-// Makes a script's calls by the code of the endpoint, each state passed on as handed back.
+/// Makes a script's calls by the code of the endpoint, each state passed on as handed back.
 #[tactic(auto, using(laws::proofs::Parts::rest, crate::proofs::Stages::playing_none, crate::proofs::Stages::playing_more, crate::proofs::Stages::playing_all))]
-pub fn run(state: Record, area: &mut [u8], script: &[u8], output: &mut [u8]) -> Played
+pub fn run(mut state: Record, area: &mut [u8], script: &[u8], output: &mut [u8]) -> Played
     ensures { RunGives state area.old script.now output.old result
         area.new output.new }
 {
-    let answer = Numbers {
-        number: numbers::NOT_REFUSED,
+    let mut answer = Numbers {
+        number: 0,
         first: 0,
         second: 0,
         third: 0,
     };
-    let mut last = Played { state, answer };
-    let mut t = script;
-    while HEAD <= t.len() {
-        let size = first_size(t);
-        last = first(last.state, area, t, output);
-        t = &t[size..];
+    let mut rest = script;
+    while let Ok(call) = Call::try_from(rest) {
+        answer = call.make(&mut state, area, output);
+        rest = &rest[call.size()..];
     }
-    last
+    Played { state, answer }
 }
 
 // Two results of run that its promise allows are equal.

@@ -8,11 +8,14 @@ use lib.Dec.{eqb, ltb}
 use lib.ListN.{length, get_or, drop, length-append}
 use lib.Seq.{take-length, take_all}
 use borrow.Author.Tests.{le-leb, eq-eqb, ne_eqb, lt-ltb, le-ltb, eqb-true, eqb-false, ltb-true, ltb-false}
+use Rattle.std.specs.Prelude.{Some, None}
+use Rattle.std.proofs.lemmas.Option.{none-some}
 use Rattle.laws.proofs.Conds.{cond_left, cond_right, either}
 use Rattle.octets.specs.Numbers.{be16_at, be32_at, bytes16, bytes32, Octets}
 use Rattle.octets.proofs.Digits.{be16_small, be32_bytes, bytes16_be16, bytes32_be32, octets_drop}
 use Rattle.numbers.specs.Refusal.{fault}
-use Rattle.numbers.specs.Fault.{fault_size, fault_count}
+use Rattle.numbers.specs.Fault.{fault_size}
+use Rattle.numbers.specs.declared.Fault.TheVariants as faults
 use Rattle.heartbeat.specs.Beat.{form_of, value_of, greatest_seconds, greatest_milliseconds}
 use Rattle.heartbeat.specs.declared.Heartbeat.{Heartbeat}
 use Rattle.heartbeat.specs.declared.Heartbeat.TheVariants.{InSeconds, InMilliseconds}
@@ -74,18 +77,18 @@ heartbeat_fits t o =
     (le-leb (be32_at t 0) greatest_milliseconds (omega (arith, be32_small t 0 o)))
 
 -- ---- the header's count
-count_some : (kind count : ℕ) → count_fault kind count ≡ 0 → 0 < count
+count_some : (kind count : ℕ) → count_fault kind count ≡ None → 0 < count
 unfolding count_fault
 count_some kind count h =
-    let p = cond_right (eqb count 0) fault_count _ 0 h (λ e. omega arith) in
+    let p = cond_right (eqb count 0) (Some faults.Count) _ None h (λ e. none-some faults.Count (sym e)) in
     let q = eqb-false count 0 p.0 in
     omega arith
 
-count_one : (count : ℕ) → count_fault keep_alive count ≡ 0 → count ≡ 1
+count_one : (count : ℕ) → count_fault keep_alive count ≡ None → count ≡ 1
 unfolding count_fault
 count_one count h =
-    let p = cond_right (eqb count 0) fault_count _ 0 h (λ e. omega arith) in
-    eqb-true count 1 (cond_left (eqb count 1) 0 fault_count 0 p.1 (λ e. omega arith)).0
+    let p = cond_right (eqb count 0) (Some faults.Count) _ None h (λ e. none-some faults.Count (sym e)) in
+    eqb-true count 1 (cond_left (eqb count 1) None (Some faults.Count) None p.1 (λ e. none-some faults.Count (sym e))).0
 
 -- ---- a message that is too long
 module _ (count : ℕ) (body rest : List ℕ) (over : greatest_size < size_of body) (under : size_of body ≤ longest_reply) where
@@ -104,7 +107,7 @@ module _ (count : ℕ) (body rest : List ℕ) (over : greatest_size < size_of bo
   unfolding message head_bytes bytes16 bytes32 be32_at
   long_size = be32_bytes (size_of body) (omega arith)
 
-  long_fault : header_fault long ≡ fault_size
+  long_fault : header_fault long ≡ Some faults.Size
   unfolding header_fault fields_fault
   long_fault =
       rw (long_version, long_size) (simp (le-ltb (size_of body) least_size (omega arith), lt-ltb greatest_size (size_of body) over))
@@ -113,8 +116,8 @@ module _ (count : ℕ) (body rest : List ℕ) (over : greatest_size < size_of bo
   unfolding read_of read_by
   long_read =
       let l : header_end ≤ length long = omega (arith, length-append (message response count body) rest, length_message response count body) in
-      let w = way_back long (Faulty (header_fault long) header_end) (header long_first l (λ z. omega (arith, long_fault))) in
-      rw (w, long_fault)
+      let w = way_back long (Faulty faults.Size header_end) (header faults.Size long_first l long_fault) in
+      rw w
 
 module _ (d : Device) (n : ℕ) (m : List ℕ) where
   -- ---- the reply by the message's type
@@ -161,7 +164,7 @@ module _ (d : Device) (n : ℕ) (m : List ℕ) where
     known : SoundAt m (length m)
     known = sound_at m (length m) s
 
-    count_told : count_fault (pdu_type m) (message_count m) ≡ 0
+    count_told : count_fault (pdu_type m) (message_count m) ≡ None
     count_told = (sound_header m known.header).count
 
     -- a keep-alive gets itself

@@ -19,7 +19,7 @@ use Rattle.fields.specs.Fields.{command_of, response_of}
 use Rattle.reader.specs.Numbers.{response_numbers}
 use Rattle.reader.specs.Entry.{fields_of}
 use Rattle.objects.specs.Answers.{reply_of, failed_of, answer_with}
-use Rattle.objects.specs.declared.Answer.{Answer}
+use Rattle.objects.specs.Answers.{Carried as Answer}
 use Rattle.replies.specs.Bytes.{response_bytes}
 use Rattle.replies.proofs.Puts.{length_response}
 use Rattle.device.specs.Run.{mute_at, status_of, done_of, answer_of, ran_by, run_of}

@@ -24,7 +24,7 @@ use Rattle.connection.specs.Supervision.{heartbeat_kept}
 use Rattle.connection.specs.Kept.{fits_form}
 use Rattle.subscription.specs.State.{lowest_waiting}
 use Rattle.subscription.specs.declared.Subscription.{Subscription}
-use Rattle.objects.specs.declared.Answer.{Answer}
+use Rattle.objects.specs.Answers.{Carried as Answer}
 use Rattle.replies.specs.Bytes.{context_sent, keep_alive_bytes}
 use Rattle.device.specs.State.{heard_at}
 use Rattle.device.specs.Run.{mute_at}

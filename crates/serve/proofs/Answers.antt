@@ -10,13 +10,13 @@ use lib.Seq.{length-sets}
 use Rattle.octets.specs.Numbers.{bytes16}
 use Rattle.objects.specs.Methods.{is_mute, device_manager, class_method, lockable_method, get_method}
 use Rattle.objects.specs.Answers.{reply_room, class_of, identification_of, reply_of, failed_of, answer_with}
-use Rattle.objects.specs.declared.Answer.{Answer}
+use Rattle.objects.specs.Answers.{Carried}
 use Rattle.device.specs.Run.{mute_at, status_of, done_of, answer_of, ran_by, run_of}
 use Rattle.device.specs.declared.Device.{Device}
 use Rattle.device.specs.Run.{Ran}
 
 -- the parameters fit their room
-pub record Fitting (a : Answer) : Type 0 where
+pub record Fitting (a : Carried) : Type 0 where
   pub low : a.length ≤ 12
   pub room : length a.bytes ≡ 12
 

@@ -1,4 +1,3 @@
-pub mod Ways
 pub mod Answers
 pub mod Serves
 pub mod Replies

@@ -1,13 +1,13 @@
 -- The reply to a message of commands: it fits the output, and its stores leave it at the front. Assumes nothing.
 use Prim.Native.Nat.{ℕ, zero, suc, ◌+◌, ◌-◌, ◌*◌, ◌≤◌, ◌<◌}
 use mathlib.Core.Path.{◌≡◌, refl, sym, ap, ◌∙◌}
-use mathlib.Core.Bool.{Bool, true, false, cond}
+use mathlib.Core.Bool.{true, cond}
 use mathlib.Core.List.{List, []}
 use native.Mathlib.Omega.{arith}
 use lib.Dec.{eqb}
 use lib.ListN.{length, drop, length-drop}
 use lib.Seq.{sets, take-length}
-use borrow.Author.Tests.{eq-eqb, ne_eqb, eqb-true, eqb-false}
+use borrow.Author.Tests.{eq-eqb, ne_eqb}
 use Rattle.laws.proofs.Stores.{sets_comm}
 use Rattle.frame.specs.Limits.{header_end, response, keep_alive}
 use Rattle.frame.specs.Header.{pdu_type, message_count}
@@ -70,47 +70,28 @@ module _ (d : Device) (n kind count : ℕ) (t : List ℕ) where
   pub room : count ≤ 119 → 10 + length (responses_of count d n kind t) ≤ 2628
   room h = omega (arith, responses_few count d n kind t)
 
--- the place behind the last response
-pub end_between : (d : Device) (n kind count : ℕ) (t : List ℕ) (end : ℕ) → count ≤ 119 → end ≡ cond (eqb kind 0) 10 (10 + length (responses_of count d n kind t)) → (10 ≤ end) × (end ≤ 2628)
-end_between d n kind count t end h e = go (eqb kind 0) e
-  where
-    go : (k : Bool) → end ≡ cond k 10 (10 + length (responses_of count d n kind t)) → (10 ≤ end) × (end ≤ 2628)
-    go true q = (omega arith, omega arith)
-    go false q = (omega arith, omega (arith, room d n kind count t h))
-
 pub front_none : (out : List ℕ) → at_front [] out ≡ out
 unfolding at_front
 front_none out = refl
 
--- the device that the commands left and the bytes, as one outcome
-module _ (d : Device) (n kind count : ℕ) (t : List ℕ) {last : Device} (ed : last ≡ last_of count d n kind t) where
+-- the responses were written and then the head, and the reply is something sent
+module _ (d : Device) (n kind count : ℕ) (t : List ℕ) (k : kind ≡ 0 → ⊥) where
   abbrev told : List ℕ
   told = responses_of count d n kind t
 
-  pub commands_end : {x : Device} {end len : ℕ} (out : List ℕ) {b z : List ℕ} → count ≤ 119 → 10 + count * 22 ≤ length out
+  pub commands_replied : {x last : Device} {end : ℕ} (out : List ℕ) {b z : List ℕ} → count ≤ 119 → 10 + count * 22 ≤ length out
+      → last ≡ last_of count d n kind t
       → end ≡ cond (eqb kind 0) 10 (10 + length told)
       → b ≡ cond (eqb kind 0) out (sets out 10 told)
-      → x ≡ cond (eqb kind 0) last (sent_at last n)
-      → len ≡ cond (eqb kind 0) 0 end
-      → z ≡ cond (eqb kind 0) b (sets b 0 (head_bytes response count (end - 1)))
-      → (x ≡ (commands_of d n kind count t).device) × (len ≡ length (commands_of d n kind count t).reply) × (z ≡ at_front (commands_of d n kind count t).reply out)
-  commands_end {x} {end} {len} out {b} {z} few room ee eb ex el ez = go (eqb kind 0) refl
-    where
-      go : (k : Bool) → eqb kind 0 ≡ k
-          → (x ≡ (commands_of d n kind count t).device) × (len ≡ length (commands_of d n kind count t).reply) × (z ≡ at_front (commands_of d n kind count t).reply out)
-      go true k =
-          let xa : x ≡ last = rw k at ex in
-          let zb : z ≡ b = rw k at ez in
-          let bo : b ≡ out = rw k at eb in
-          rw (commands_silent d n kind count t (eqb-true kind 0 k)) (xa ∙ ed, rw k at el, zb ∙ bo ∙ sym (front_none out))
-      go false k =
-          let xs : x ≡ sent_at last n = rw k at ex in
-          let en : end ≡ 10 + length told = rw k at ee in
-          let le : len ≡ end = rw k at el in
-          let bs : b ≡ sets out 10 told = rw k at eb in
-          let zs : z ≡ sets b 0 (head_bytes response count (end - 1)) = rw k at ez in
-          rw (commands_told d n kind count t (eqb-false kind 0 k)) (
-            xs ∙ ap (λ (y : Device). sent_at y n) ed,
-            omega (arith, length_message response count told),
-            reply_stores count end out told z en (omega (arith, responses_few count d n kind t)) (zs ∙ ap (λ (y : List ℕ). sets y 0 (head_bytes response count (end - 1))) bs),
-          )
+      → x ≡ sent_at last n
+      → z ≡ sets b 0 (head_bytes response count (end - 1))
+      → (x ≡ (commands_of d n kind count t).device) × (end ≡ length (commands_of d n kind count t).reply) × (z ≡ at_front (commands_of d n kind count t).reply out)
+  commands_replied {x} {last} {end} out {b} {z} few room ed ee eb ex ez =
+      let f = ne_eqb kind 0 k in
+      let en : end ≡ 10 + length told = rw f at ee in
+      let bs : b ≡ sets out 10 told = rw f at eb in
+      rw (commands_told d n kind count t k) (
+        ex ∙ ap (λ (y : Device). sent_at y n) ed,
+        omega (arith, length_message response count told),
+        reply_stores count end out told z en (omega (arith, responses_few count d n kind t)) (ez ∙ ap (λ (y : List ℕ). sets y 0 (head_bytes response count (end - 1))) bs),
+      )

@@ -15,7 +15,7 @@ use Rattle.frame.specs.Limits.{least_response}
 use Rattle.frame.specs.Entry.{entry_size, entries_fill}
 use Rattle.frame.proofs.Entries.{entry_at_lem, entries_first, least_command_lem}
 use Rattle.fields.specs.Fields.{command_of}
-use Rattle.objects.specs.declared.Answer.{Answer}
+use Rattle.objects.specs.Answers.{Carried}
 use Rattle.device.specs.Run.{unchanged}
 use Rattle.device.specs.declared.Device.{Device}
 use Rattle.device.specs.Run.{Ran}
@@ -149,13 +149,9 @@ module _ (n kind count : ℕ) (body first : List ℕ) (fresh : Device) (out : Li
         go true = refl
         go false = refl
 
--- a command's answer has room
-pub answer_fits : (d e : Device) (n kind : ℕ) (t : List ℕ) (answer : Answer) → unchanged e answer ≡ ran_first d n kind t → answer.length ≤ 12
-answer_fits d e n kind t answer s = subst (λ (r : Ran). r.answer.length ≤ 12) (sym s) (first_fits d n kind t).low
-
 -- one command run and answered
 pub serving_step : {n kind count : ℕ} {body first : List ℕ} {fresh : Device} {out : List ℕ} {d : Device} {t : List ℕ} {left at : ℕ} → Serving n kind count body first fresh out d t left at
-    → 0 < left → {d' : Device} {answer : Answer} → unchanged d' answer ≡ ran_first d n kind t → {handle : ℕ} → handle ≡ (command_of (take (entry_size kind t) t)).handle → {after : ℕ}
+    → 0 < left → {d' : Device} {answer : Carried} → unchanged d' answer ≡ ran_first d n kind t → {handle : ℕ} → handle ≡ (command_of (take (entry_size kind t) t)).handle → {after : ℕ}
     → after ≡ cond (eqb kind 0) at (at + (least_response + answer.length)) → {next : List ℕ}
     → next ≡ cond (eqb kind 0) out (sets out at (response_bytes handle answer))
     → Serving n kind count body first fresh next d' (drop (entry_size kind t) t) (left - 1) after
@@ -164,9 +160,9 @@ serving_step {n} {kind} {count} {body} {first} {fresh} {out} {d} {t} {left} {at}
     let a : answer ≡ (ran_first d n kind t).answer = ap (λ (r : Ran). r.answer) s in
     subst (λ (r : Ran). Serving n kind count body first fresh next r.device (drop (entry_size kind t) t) (left - 1) after) (sym s)
     (serving_more n kind count body first fresh out d t left at w next after h
-    (ea ∙ ap (λ (x : Answer). cond (eqb kind 0) at (at + (least_response + x.length))) a)
+    (ea ∙ ap (λ (x : Carried). cond (eqb kind 0) at (at + (least_response + x.length))) a)
     (en ∙ ap (λ (k : ℕ). cond (eqb kind 0) out (sets out at (response_bytes k answer))) eh
-    ∙ ap (λ (x : Answer). cond (eqb kind 0) out (sets out at (response_bytes (command_of (take (entry_size kind t) t)).handle x))) a))
+    ∙ ap (λ (x : Carried). cond (eqb kind 0) out (sets out at (response_bytes (command_of (take (entry_size kind t) t)).handle x))) a))
 
 -- each response has at most 22 bytes
 pub responses_few : (k : ℕ) (d : Device) (n kind : ℕ) (t : List ℕ) → length (responses_of k d n kind t) ≤ k * 22

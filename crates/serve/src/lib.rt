@@ -1,72 +1,44 @@
-// What a whole message does: its commands run in order, a response to each in a lent output, and the reply.
+//! What a whole message does: its commands run in order, a response to each in a lent output, and the reply.
 #![tactic(auto)]
 
-ghost use Rattle.std.specs.Prelude.{◌≡◌, cond, true, ◌+◌, ◌-◌, ◌*◌, ◌<◌, ◌≤◌, length, eqb};
+ghost use Rattle.std.specs.Prelude.{◌≡◌, cond, true, ◌+◌, ◌*◌, ◌<◌, ◌≤◌, length, eqb};
 ghost use Rattle.std.proofs.lemmas.List.Edits.{sets};
-ghost use Rattle.frame.specs.Limits.{least_response, response};
+ghost use Rattle.frame.specs.Limits.{least_response};
 ghost use Rattle.frame.specs.Header.{pdu_type};
 ghost use Rattle.frame.specs.Entry.{entries_fill};
 ghost use Rattle.frame.specs.Scaffold.{SoundAt};
-ghost use Rattle.layout.specs.Message.{head_bytes, at_front};
-ghost use Rattle.device.specs.Run.{unchanged};
+ghost use Rattle.layout.specs.Message.{at_front};
+ghost use Rattle.objects.specs.Answers.{answer_in};
 ghost use Rattle.device.specs.State.{sent_at};
 ghost use Rattle.replies.specs.Bytes.{response_bytes};
-ghost use Rattle.serve.specs.Serve.{ran_with, last_of, responses_of};
+ghost use Rattle.serve.specs.Serve.{last_of, responses_of};
 ghost use Rattle.serve.specs.Sound.{commands_of, sound_of};
 ghost use Rattle.serve.specs.Kept.{SoundKept};
 
-use command::channels::Channels;
-use command::slot;
 use device::Device;
-use fields::CommandFields;
-use objects::Answer;
+use numbers::Status;
+use objects::Reply;
 
 // A command of type 0 gets no response.
-fn answer_to(out: &mut [u8], at: usize, kind: u8, handle: u32, answer: Answer) -> usize
-    requires { (answer.length ≤ 12) × (at + 22 ≤ length out.old) }
-    ensures { (result ≡ cond (eqb kind 0) at (at + (least_response + answer.length)))
-        × (out.new ≡ cond (eqb kind 0) out.old (sets out.old at (response_bytes handle answer))) }
+fn answer_to(
+    out: &mut [u8],
+    at: usize,
+    kind: u8,
+    handle: u32,
+    answer: Result<Reply, Status>,
+) -> usize
+    requires { at + 22 ≤ length out.old }
+    ensures { (result ≡ cond (eqb kind 0) at (at + (least_response + (answer_in answer).length)))
+        × (out.new ≡ cond (eqb kind 0) out.old (sets out.old at (response_bytes handle (answer_in answer)))) }
 {
-    if 0 < kind {
-        return replies::put_response(out, at, handle, answer);
+    match kind {
+        frame::COMMAND => at,
+        _ => replies::put_answer(out, at, handle, answer),
     }
-    at
-}
-
-// One command of connection n: it concerns an entry, or the mechanism, or the channels and perhaps the entries' marks.
-#[tactic(auto, using(crate::proofs::Ways::no_booking, crate::proofs::Ways::did_store, crate::proofs::Ways::did_refuse, crate::proofs::Ways::did_arm, crate::proofs::Ways::did_mark, crate::proofs::Ways::did_keep), unfolding(objects::specs::Methods::is_subscribing, crate::specs::Serve::ran_with))]
-fn run(device: &mut Device, n: u8, c: CommandFields, part: &[u8]) -> Answer
-    ensures { unchanged device.new result ≡ ran_with device.old n c part.now }
-{
-    let m = objects::method(c.method.level, c.method.index);
-    if (m == objects::ADD) | (m == objects::REMOVE) {
-        let booked = slot::book(&device.subscriptions, n, c.target, m, c.count, part);
-        let slot = booked.slot;
-        if slot.place < subscription::ENTRIES {
-            device.subscriptions[slot.place] = slot.entry;
-        }
-        return booked.answer;
-    }
-    if m == objects::RESET_KEY {
-        let armed = command::arm(device.mechanism, c.target, c.count, part);
-        device.mechanism = armed.mechanism;
-        return armed.answer;
-    }
-    let mutes = device.mutes;
-    let holders = device.holders;
-    let channels = Channels { mutes, holders };
-    let acted = channels.act(n, c.target, m, c.count, part);
-    let Channels { mutes, holders } = acted.channels;
-    device.mutes = mutes;
-    device.holders = holders;
-    if acted.changed {
-        subscription::all_marked(&mut device.subscriptions, c.target);
-    }
-    acted.answer
 }
 
 // Runs count commands of connection n; those of type 1 are answered from place 10 of the output on.
-#[tactic(auto, using(laws::proofs::Parts::rest, frame::proofs::Entries::offset_other, frame::proofs::Entries::least_command_lem, crate::proofs::Serves::size_given, crate::proofs::Serves::serving_none, crate::proofs::Serves::serving_step, crate::proofs::Serves::answer_fits, crate::proofs::Serves::serving_last, crate::proofs::Serves::serving_end, crate::proofs::Serves::serving_bytes), unfolding(crate::specs::Serve::ran_first))]
+#[tactic(auto, using(laws::proofs::Parts::rest, frame::proofs::Entries::offset_other, frame::proofs::Entries::least_command_lem, crate::proofs::Serves::size_given, crate::proofs::Serves::serving_none, crate::proofs::Serves::serving_step, crate::proofs::Serves::serving_last, crate::proofs::Serves::serving_end, crate::proofs::Serves::serving_bytes), unfolding(crate::specs::Serve::ran_first))]
 fn serve(device: &mut Device, n: u8, kind: u8, count: u16, body: &[u8], out: &mut [u8]) -> usize
     requires { (kind < 2) × (entries_fill count kind body.now ≡ true) × (10 + count * 22 ≤ length out.old) }
     ensures { let told = responses_of count device.old n kind body.now in
@@ -81,43 +53,25 @@ fn serve(device: &mut Device, n: u8, kind: u8, count: u16, body: &[u8], out: &mu
         let size = frame::given_size(t);
         let e = &t[..size];
         let c = fields::command_of(e);
-        let handle = c.handle;
-        let part = fields::parameters(kind, e);
-        let answer = run(device, n, c, part);
-        at = answer_to(out, at, kind, handle, answer);
+        let answer = command::run(device, n, c, fields::parameters(kind, e));
+        at = answer_to(out, at, kind, c.handle, answer);
         t = &t[size..];
         left -= 1;
     }
     at
 }
 
-// The head of the reply to commands, before the responses, and the reply's length; type 0 gets none.
-fn reply(out: &mut [u8], kind: u8, count: u16, end: usize) -> usize
-    requires { (10 ≤ end) × (end ≤ 2628) × (10 ≤ length out.old) }
-    ensures { (result ≡ cond (eqb kind 0) 0 end) × (out.new
-        ≡ cond (eqb kind 0) out.old (sets out.old 0 (head_bytes response count (end - 1)))) }
-{
-    if kind == 0 {
-        return 0;
-    }
-    layout::put_head(out, frame::RESPONSE, count, (end - 1) as u32);
-    end
-}
-
 // A reply is something sent.
-fn speak(device: &mut Device, n: u8, kind: u8)
+fn sent(device: &mut Device, n: u8)
     requires { n < 8 }
-    ensures { device.new ≡ cond (eqb kind 0) device.old (sent_at device.old n) }
+    ensures { device.new ≡ sent_at device.old n }
 {
-    if kind != 0 {
-        let at = n as usize;
-        let c = device.connections[at];
-        device.connections[at] = c.sent();
-    }
+    let at = n as usize;
+    device.connections[at] = device.connections[at].sent();
 }
 
-// Runs count commands, and answers those of type 1.
-#[tactic(auto, using(crate::proofs::Replies::end_between, crate::proofs::Replies::commands_end))]
+// Runs count commands; those of type 1 get a reply, whose head stands before the responses.
+#[tactic(auto, using(crate::proofs::Replies::commands_silent, crate::proofs::Replies::commands_told, crate::proofs::Replies::room, crate::proofs::Replies::reply_stores))]
 fn commands(device: &mut Device, n: u8, kind: u8, count: u16, body: &[u8], out: &mut [u8]) -> usize
     requires { (n < 8) × (kind < 2) × (entries_fill count kind body.now ≡ true) × (10 + count * 22 ≤ length out.old)
         × (count ≤ 119) }
@@ -125,8 +79,14 @@ fn commands(device: &mut Device, n: u8, kind: u8, count: u16, body: &[u8], out: 
         (device.new ≡ q.device) × (result ≡ length q.reply) × (out.new ≡ at_front q.reply out.old) }
 {
     let end = serve(device, n, kind, count, body, out);
-    speak(device, n, kind);
-    reply(out, kind, count, end)
+    match kind {
+        frame::COMMAND => 0,
+        _ => {
+            sent(device, n);
+            layout::put_head(out, frame::RESPONSE, count, (end - 1) as u32);
+            end
+        }
+    }
 }
 
 // A message of commands is heard, and they are run.
@@ -147,33 +107,26 @@ fn commanded(device: &mut Device, n: u8, m: &[u8], out: &mut [u8]) -> usize
     )
 }
 
-// A keep-alive is answered; a notification or a response is only heard.
-#[tactic(auto, using(laws::proofs::Parts::rest, crate::proofs::Replies::beats, crate::proofs::Replies::front_none), unfolding(crate::specs::Sound::kept_alive, crate::specs::Sound::sound_of))]
-fn others(device: &mut Device, n: u8, m: &[u8], out: &mut [u8]) -> usize
-    requires { (n < 8) × (2 ≤ pdu_type m.now) × SoundAt m.now (length m.now) × (4096 ≤ length out.old) }
-    ensures { let q = sound_of device.old n m.now in
-        (device.new ≡ q.device) × (result ≡ length q.reply) × (out.new ≡ at_front q.reply out.old) }
-{
-    if m[frame::places::TYPE] == frame::KEEP_ALIVE {
-        let h = fields::heartbeat_of(&m[frame::HEADER_END..]);
-        let length = replies::put_keep_alive(out, h);
-        device.keep_alive(n, h);
-        return length;
-    }
-    device.heard(n);
-    0
-}
-
-// A sound message m of connection n: the reply, if any, fills the output's front.
+/// A sound message `m` of connection `n`: commands are run, a keep-alive is answered, and a notification or a response is
+/// only heard. The reply, if any, fills the output's front: its length, or 0.
+#[tactic(auto, using(laws::proofs::Parts::rest, laws::proofs::Conds::tests, crate::proofs::Replies::beats, crate::proofs::Replies::front_none), unfolding(crate::specs::Sound::kept_alive, crate::specs::Sound::sound_of))]
 pub fn sound(device: &mut Device, n: u8, m: &[u8], out: &mut [u8]) -> usize
     requires { (n < 8) × SoundAt m.now (length m.now) × (4096 ≤ length out.old) }
     ensures { let q = sound_of device.old n m.now in
         (device.new ≡ q.device) × (result ≡ length q.reply) × (out.new ≡ at_front q.reply out.old) }
 {
-    if m[frame::places::TYPE] < frame::NOTIFICATION {
-        return commanded(device, n, m, out);
+    match m[frame::places::TYPE] {
+        frame::COMMAND | frame::COMMAND_WANTING_REPLY => commanded(device, n, m, out),
+        frame::KEEP_ALIVE => {
+            let beat = fields::heartbeat_of(&m[frame::HEADER_END..]);
+            device.keep_alive(n, beat);
+            replies::put_keep_alive(out, beat)
+        }
+        _ => {
+            device.heard(n);
+            0
+        }
     }
-    others(device, n, m, out)
 }
 
 // The theorems of a sound message, as the contract of a function that does nothing: it has its line in the verdict.

@@ -13,6 +13,7 @@ use Rattle.laws.proofs.Conds.{and_left, and_right}
 use Rattle.laws.proofs.Tables.{and_both}
 use Rattle.frame.specs.Decide.{decide, taken, settled}
 use Rattle.frame.specs.declared.Decision.{Decision}
+use Rattle.numbers.specs.declared.Fault.{Fault}
 use Rattle.frame.specs.declared.Decision.TheVariants.{Undecided, Faulty, Sound}
 use Rattle.frame.proofs.Ways.{deciding, unsettled}
 use Rattle.frame.proofs.Bytes.{nil_waits}
@@ -77,7 +78,7 @@ unfolding split_of split_within split_by
 split_none [] e = refl
 split_none (x ∷ s) e = rw e
 
-pub split_fault : (s : List ℕ) (f k : ℕ) → decide s ≡ Faulty f k → split_of s ≡ parts (take k s ∷ []) (drop k s)
+pub split_fault : (s : List ℕ) (f : Fault) (k : ℕ) → decide s ≡ Faulty f k → split_of s ≡ parts (take k s ∷ []) (drop k s)
 unfolding split_of split_within split_by settled
 split_fault [] f k e = absurd (true≢false (sym (ap settled e) ∙ nil_waits))
 split_fault (x ∷ s) f k e = rw e
@@ -94,7 +95,7 @@ split_sound (x ∷ s) k e =
 
 pub data Front (s : List ℕ) : Type 0 where
   waits : decide s ≡ Undecided → Front s
-  stops : (f k : ℕ) → decide s ≡ Faulty f k → Front s
+  stops : (f : Fault) (k : ℕ) → decide s ≡ Faulty f k → Front s
   goes : (k : ℕ) → decide s ≡ Sound k → Front s
 
 pub front : (s : List ℕ) → Front s
@@ -110,7 +111,7 @@ front s = go (decide s) refl
 none_splits : (s : List ℕ) → decide s ≡ Undecided → SplitsAs s (parts [] s)
 none_splits s e = record { joins = refl; ends = λ i l. absurd (omega arith); sound = λ i l. absurd (omega arith); rest = λ a. e }
 
-fault_splits : (s : List ℕ) (f k : ℕ) → decide s ≡ Faulty f k → SplitsAs s (parts (take k s ∷ []) (drop k s))
+fault_splits : (s : List ℕ) (f : Fault) (k : ℕ) → decide s ≡ Faulty f k → SplitsAs s (parts (take k s ∷ []) (drop k s))
 unfolding settled taken decides_sound
 fault_splits s f k e =
     let x = front_same s (Faulty f k) e refl in

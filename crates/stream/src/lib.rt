@@ -1,2 +1,2 @@
-// The machine over pieces, over any device that keeps its laws: proofs/ alone.
+//! The machine over pieces, over any device that keeps its laws: proofs/ alone.
 #![tactic(auto)]

@@ -1,10 +1,6 @@
 -- Marking and sweeping keep the rules of the entries. No code is named. Assumes nothing.
-use Prim.Native.Nat.{ℕ}
-use mathlib.Core.Path.{◌≡◌, refl, sym, ap, ◌∙◌}
-use mathlib.Core.Logic.{◌⊎◌, inl, inr, ⊎_elim}
-use mathlib.Core.Bool.{Bool, true, false, cond, not, ◌&&◌, and_comm}
-use mathlib.Core.List.{List}
-use lib.Dec.{eqb}
+use Rattle.std.proofs.Common.{ℕ, ◌≡◌, refl, sym, ap, ◌∙◌, ◌⊎◌, inl, inr, ⊎_elim, Bool, true, false, cond, not, ◌&&◌, List, eqb}
+use Rattle.std.proofs.Math.Bool.{and_comm}
 use Rattle.laws.proofs.Conds.{and_left, and_right}
 use Rattle.laws.proofs.Tables.{and_both, or_cases, or_right, clash, eqb_even}
 use Rattle.octets.specs.Zeros.{zeros, all_zero}

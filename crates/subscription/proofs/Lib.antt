@@ -1,3 +1,4 @@
 pub mod Entries
-pub mod Walks
+pub mod Contexts
+pub mod Pairs
 pub mod Keeps

@@ -1,44 +1,54 @@
-// A subscription entry: who is told of which mute's changes.
+//! A subscription entry: who is told of which mute's changes.
 #![tactic(auto)]
 
-ghost use Rattle.std.specs.Prelude.{◌≡◌, true, cond, ◌&&◌, ◌||◌, map, ◌+◌, ◌<◌, ◌≤◌, length, slice_set, slice_index_or};
+ghost use Rattle.std.specs.Prelude.{◌≡◌, true, ◌&&◌, map, ◌+◌, ◌<◌, ◌≤◌, length, slice_set, slice_index_or, position, IfSome, fold, zip};
 ghost use Rattle.laws.specs.Lists.{all, all_pairs};
 ghost use Rattle.frame.specs.Limits.{greatest_context};
 ghost use Rattle.objects.specs.Tests.{context_given};
 ghost use Rattle.subscription.specs.Setters.{with_context, without_context};
-ghost use Rattle.subscription.specs.State.{free, is_twin, is_waiting, lowest_waiting, marked_of, told_of, swept_of};
+ghost use Rattle.subscription.specs.State.{free, is_twin, is_waiting, marked_of, told_of, swept_of};
 ghost use Rattle.subscription.specs.Arguments.{context_held, subscription_from, is_strange};
-ghost use Rattle.subscription.specs.Obeys.{is_free, is_context_kept, entry_obeys, apart};
+ghost use Rattle.subscription.specs.Obeys.{is_free, is_context_kept, is_sound, entry_obeys, apart};
 ghost use Rattle.subscription.specs.Kept.{EntriesKept};
-ghost use Rattle.subscription.specs.Scaffold.{free_by, sound_by, sound_as};
+ghost use Rattle.subscription.specs.Scaffold.{zero_past, places, is_apart_of};
 
 use connection::Connection;
 
+/// How many entries a device has: their places are 0 to 31.
 pub const ENTRIES: usize = 32;
 
-// The places of a context's bytes, as bytes: compared with a count of one byte, a place of eight would be tested two at a time.
+// The places of a context's bytes, as bytes: beside a count of one byte they are compared sixteen at a time.
 const PLACES: [u8; 64] = [
     0, 1, 2, 3, 4, 5, 6, 7, 8, 9, 10, 11, 12, 13, 14, 15, 16, 17, 18, 19, 20, 21, 22, 23, 24, 25,
     26, 27, 28, 29, 30, 31, 32, 33, 34, 35, 36, 37, 38, 39, 40, 41, 42, 43, 44, 45, 46, 47, 48, 49,
     50, 51, 52, 53, 54, 55, 56, 57, 58, 59, 60, 61, 62, 63,
 ];
 
-// An event and a method are level x 65,536 + index.
+/// One entry, as the record holds it: all zero while it is free. An event and a method are level x 65,536 + index.
 #[repr(C)]
-#[derive(Clone, Copy)]
+#[derive(Clone, Copy, Debug, PartialEq, Eq)]
 pub struct Subscription {
+    /// It is in use.
     pub used: bool,
+    /// Its notification waits to be taken.
     pub waiting: bool,
+    /// The connection that is told, 0 to 7.
     pub connection: u8,
+    /// How many bytes the context has, at most 64.
     pub context_count: u8,
+    /// The object number of the mute whose changes are told.
     pub emitter: u32,
+    /// The event: 1.1, a property has changed.
     pub event: u32,
+    /// The object number that a notification is for.
     pub object: u32,
+    /// The method that a notification calls.
     pub method: u32,
+    /// The context, zeros behind it.
     pub context: [u8; 64],
 }
 
-// The arguments of add and remove, which tell the subscription: its context does not.
+/// The subscription that the arguments of add and remove name, for connection `n`: without a context, which does not tell it.
 #[tactic(auto, unfolding(octets::specs::Zeros::zeros, crate::specs::Arguments::subscription_from))]
 pub fn entry(n: u8, part: &[u8]) -> Subscription
     requires { 16 ≤ length part.now }
@@ -61,7 +71,7 @@ pub fn entry(n: u8, part: &[u8]) -> Subscription
     }
 }
 
-// The context that add gives, zeros behind it.
+// The context that the arguments of add give, zeros behind it.
 #[tactic(auto, using(crate::proofs::Entries::context_copied))]
 fn context_held(part: &[u8]) -> [u8; 64]
     requires { (context_given part.now ≤ greatest_context) × (21 + context_given part.now ≤ length part.now) }
@@ -73,21 +83,26 @@ fn context_held(part: &[u8]) -> [u8; 64]
     context
 }
 
-// Every byte is looked at, whatever the count is: so they are tested sixteen at a time.
-#[tactic(auto, using(crate::proofs::Entries::counts_up, crate::proofs::Entries::keeping_none, crate::proofs::Entries::keeping_more, crate::proofs::Entries::keeping_all))]
+// Every byte past the count is zero. Each byte is looked at, whatever the count is: so they are tested sixteen at a time.
+fn is_zero_past(count: u8, context: &[u8; 64]) -> bool
+    ensures { result ≡ fold (zero_past count) true (zip context.now places) }
+{
+    context.iter().zip(&PLACES).fold(
+        true,
+        |kept, (&b, &place)| kept & ((place < count) | (b == 0)),
+    )
+}
+
+// A context has at most 64 bytes, and the bytes held past them are zero.
+#[tactic(auto, using(crate::proofs::Contexts::kept_is))]
 fn is_context_kept(count: u8, context: &[u8; 64]) -> bool
     ensures { result ≡ is_context_kept count context.now }
 {
-    let places = &PLACES;
-    let mut kept = count <= 64;
-    let mut i: usize = 0;
-    while i < frame::GREATEST_CONTEXT {
-        kept = kept & ((places[i] < count) | (context[i] == 0));
-        i += 1;
-    }
-    kept
+    let past = is_zero_past(count, context);
+    (count <= 64) & past
 }
 
+/// The arguments of add or remove have no mute as emitter, or another event than 1.1.
 #[tactic(auto, unfolding(crate::specs::Arguments::is_strange))]
 pub fn is_strange(part: &[u8]) -> bool
     requires { 8 ≤ length part.now }
@@ -100,6 +115,7 @@ pub fn is_strange(part: &[u8]) -> bool
 }
 
 impl Subscription {
+    /// An entry that is not in use.
     pub const FREE: Subscription = Subscription {
         used: false,
         waiting: false,
@@ -112,7 +128,7 @@ impl Subscription {
         context: [0u8; 64],
     };
 
-    // With the context that add gives.
+    /// The subscription with the context that the arguments of add give.
     pub fn with_context(self, part: &[u8]) -> Subscription
         requires { (context_given part.now ≤ greatest_context) × (21 + context_given part.now ≤ length part.now) }
         ensures { result ≡ with_context self (context_given part.now) (context_held part.now) }
@@ -120,52 +136,39 @@ impl Subscription {
         let context_count = objects::context_given(part) as u8;
         let context = context_held(part);
         Subscription {
-            used: self.used,
-            waiting: self.waiting,
-            connection: self.connection,
             context_count,
-            emitter: self.emitter,
-            event: self.event,
-            object: self.object,
-            method: self.method,
             context,
+            ..self
         }
     }
 
-    fn is_free(&self, kept: bool) -> bool
-        ensures { result ≡ free_by kept self.now }
+    #[tactic(auto, using(crate::proofs::Contexts::free_same), unfolding(octets::specs::Zeros::zeros))]
+    fn is_free(&self) -> bool
+        ensures { result ≡ is_free self.now }
     {
-        !self.used
-            & !self.waiting
-            & (self.connection == 0)
-            & (self.emitter == 0)
-            & (self.event == 0)
-            & (self.object == 0)
-            & (self.method == 0)
-            & (self.context_count == 0)
-            & kept
+        *self == Subscription::FREE
     }
 
-    fn is_sound(&self, live: bool, kept: bool) -> bool
-        ensures { result ≡ sound_by live kept self.now }
+    #[tactic(auto, unfolding(crate::specs::Obeys::is_sound))]
+    fn is_sound(&self, connections: &[Connection; 8]) -> bool
+        ensures { result ≡ is_sound connections.now self.now }
     {
-        let mute = objects::is_mute(self.emitter);
-        self.used & live & mute & (self.event == objects::CHANGE_EVENT) & kept
+        self.used
+            && connection::live_at(connections, self.connection)
+            && objects::is_mute(self.emitter)
+            && self.event == objects::CHANGE_EVENT
+            && is_context_kept(self.context_count, &self.context)
     }
 
-    // `live` is whether its connection is open.
-    #[tactic(auto, using(crate::proofs::Entries::used_obeys, crate::proofs::Entries::unused_obeys))]
-    fn obeys(&self, live: bool) -> bool
-        ensures { result ≡ (is_free self.now || sound_as live self.now) }
+    #[tactic(auto, unfolding(crate::specs::Obeys::entry_obeys))]
+    fn obeys(&self, connections: &[Connection; 8]) -> bool
+        ensures { result ≡ entry_obeys connections.now self.now }
     {
-        let kept = is_context_kept(self.context_count, &self.context);
-        if self.used {
-            return self.is_sound(live, kept);
-        }
-        self.is_free(kept)
+        self.is_free() || self.is_sound(connections)
     }
 
-    // The same subscription, whatever its context. Most pairs differ in their emitters.
+    /// Both are in use for the same subscription, whatever their contexts.
+    // Most pairs differ in their emitters.
     #[tactic(auto, using(crate::proofs::Entries::twin_not), unfolding(crate::specs::State::is_twin))]
     pub fn is_twin(&self, t: &Subscription) -> bool
         ensures { result ≡ is_twin self.now t.now }
@@ -180,6 +183,14 @@ impl Subscription {
             & (self.event == t.event)
             & (self.object == t.object)
             & (self.method == t.method)
+    }
+
+    // None of these is the same subscription: an unused entry is nobody's twin.
+    #[tactic(auto, using(crate::proofs::Pairs::apart_unused), unfolding(crate::specs::Obeys::apart))]
+    fn is_apart(&self, others: &[Subscription]) -> bool
+        ensures { result ≡ all (is_apart_of self.now) others.now }
+    {
+        !self.used || others.iter().all(|t| !t.is_twin(self))
     }
 
     #[tactic(auto, using(crate::proofs::Entries::marked_now, crate::proofs::Entries::marked_not))]
@@ -201,62 +212,45 @@ impl Subscription {
     }
 }
 
-// How many entries before entry i may be its twin: an unused one is nobody's twin.
-fn before(used: bool, i: usize) -> usize
-    ensures { result ≡ cond used i 0 }
+// Each with those before it: the used ones are the lowest, as long as none is removed.
+#[tactic(auto, using(crate::proofs::Pairs::last_apart, crate::proofs::Pairs::last_twin))]
+fn all_apart(entries: &[Subscription; 32]) -> bool
+    ensures { result ≡ all_pairs apart entries.now }
 {
-    if used {
-        return i;
-    }
-    0
-}
-
-// From the last entry down, each by itself and then with those before it: entry i has still to be compared with j of them.
-#[tactic(auto, using(crate::proofs::Walks::walking_none, crate::proofs::Walks::walking_inside, crate::proofs::Walks::walking_twin, crate::proofs::Walks::walking_more, crate::proofs::Walks::walking_past, crate::proofs::Walks::walking_not, crate::proofs::Walks::walking_next, crate::proofs::Walks::walking_less, crate::proofs::Walks::walking_end))]
-pub fn all_obey(entries: &[Subscription; 32], connections: &[Connection; 8]) -> bool
-    ensures { result ≡ (all (entry_obeys connections.now) entries.now && all_pairs apart entries.now) }
-{
-    let mut i: usize = ENTRIES;
-    let mut j: usize = 0;
-    while 0 < i {
-        if 0 < j {
-            j -= 1;
-            if entries[j].is_twin(&entries[i]) {
-                return false;
-            }
-        } else {
-            i -= 1;
-            let s = &entries[i];
-            let at = s.connection as usize;
-            if at >= connection::CONNECTIONS {
-                return false;
-            }
-            if !s.obeys(connections[at].live) {
-                return false;
-            }
-            j = before(s.used, i);
+    let mut rest: &[Subscription] = entries;
+    while let Some((last, before)) = rest.split_last() {
+        if !last.is_apart(before) {
+            return false;
         }
+        rest = before;
     }
     true
 }
 
-// The lowest waiting entry, or 32.
-#[tactic(auto, using(crate::proofs::Entries::waiting_is, crate::proofs::Entries::waits_here, laws::proofs::Loops::searching_none, laws::proofs::Loops::searching_more, laws::proofs::Loops::searching_here, laws::proofs::Loops::searching_end))]
-pub fn lowest_waiting(entries: &[Subscription; 32]) -> usize
-    ensures place { result ≡ lowest_waiting entries.now }
-    ensures waits { result < 32 → is_waiting (slice_index_or entries.now result free) ≡ true }
+fn each_obeys(entries: &[Subscription; 32], connections: &[Connection; 8]) -> bool
+    ensures { result ≡ all (entry_obeys connections.now) entries.now }
 {
-    let mut i: usize = 0;
-    while i < ENTRIES {
-        if entries[i].waiting {
-            return i;
-        }
-        i += 1;
-    }
-    i
+    entries.iter().all(|s| s.obeys(connections))
 }
 
-// A waiting entry is told: it waits no more.
+/// Each entry keeps the record rules, and no two are the same subscription.
+pub fn all_obey(entries: &[Subscription; 32], connections: &[Connection; 8]) -> bool
+    ensures { result ≡ (all (entry_obeys connections.now) entries.now && all_pairs apart entries.now) }
+{
+    each_obeys(entries, connections) && all_apart(entries)
+}
+
+/// The lowest waiting entry, if one waits.
+#[tactic(auto, using(arrays::proofs::Places::found_low, crate::proofs::Entries::waits_here), unfolding(crate::specs::State::is_waiting))]
+pub fn lowest_waiting(entries: &[Subscription; 32]) -> Option<usize>
+    ensures place { result ≡ position is_waiting entries.now }
+    ensures low { IfSome result (λ n. n < 32) }
+    ensures waits { IfSome result (λ n. is_waiting (slice_index_or entries.now n free) ≡ true) }
+{
+    entries.iter().position(|s| s.waiting)
+}
+
+/// The entry at a place is told: it waits no more.
 #[tactic(auto, using(crate::proofs::Entries::told_in), unfolding(crate::specs::State::told_of))]
 pub fn tell(entries: &mut [Subscription; 32], at: usize)
     requires { at < 32 }
@@ -265,28 +259,27 @@ pub fn tell(entries: &mut [Subscription; 32], at: usize)
     entries[at].waiting = false;
 }
 
-#[tactic(auto, using(laws::proofs::Loops::mapping_none, laws::proofs::Loops::mapping_more, laws::proofs::Loops::mapping_all))]
+/// A mute changed: each entry that is told of it waits for its notification.
+#[tactic(auto, using(arrays::proofs::Steps::map_by_index))]
 pub fn all_marked(entries: &mut [Subscription; 32], emitter: u32)
     ensures { entries.new ≡ map (marked_of emitter) entries.old }
 {
-    let mut i: usize = 0;
-    while i < ENTRIES {
-        entries[i].mark(emitter);
-        i += 1;
+    for s in entries {
+        s.mark(emitter);
     }
 }
 
-#[tactic(auto, using(laws::proofs::Loops::mapping_none, laws::proofs::Loops::mapping_more, laws::proofs::Loops::mapping_all))]
+/// The entries of connections that are not open are freed.
+#[tactic(auto, using(arrays::proofs::Steps::map_by_index))]
 pub fn all_swept(entries: &mut [Subscription; 32], connections: &[Connection; 8])
     ensures { entries.new ≡ map (swept_of connections.now) entries.old }
 {
-    let mut i: usize = 0;
-    while i < ENTRIES {
-        entries[i].sweep(connections);
-        i += 1;
+    for s in entries {
+        s.sweep(connections);
     }
 }
 
+/// Marking, telling, sweeping and opening keep the rules of the entries: a theorem.
 #[tactic(auto, using(crate::proofs::Keeps::entries_kept))]
 pub fn entries_kept()
     ensures { EntriesKept }

@@ -1,12 +1,15 @@
 -- Laws of taking: what the record rules tell of a waiting entry and of a connection, and which way a take goes. Assumes nothing.
 use Prim.Native.Nat.{ℕ, suc, ◌<◌, ◌≤◌}
-use mathlib.Core.Path.{◌≡◌, refl, ap, ◌∙◌}
+use mathlib.Core.Path.{◌≡◌, refl, sym, ap, ◌∙◌}
 use mathlib.Core.Logic.{⊎_elim}
 use mathlib.Core.Bool.{Bool, true, false, cond, ◌&&◌, and-false}
 use mathlib.Core.List.{List, [], ◌∷◌}
 use native.Mathlib.Nat.{not-suc-le-zero, le_of_suc-le-suc}
 use native.Mathlib.Omega.{arith}
-use borrow.Author.Tests.{lt-ltb, le-ltb}
+use borrow.Author.Tests.{lt-ltb}
+use Rattle.std.specs.Prelude.{Option, Some, None, IfSome, MatchOption}
+use Rattle.std.specs.List.{position}
+use Rattle.arrays.proofs.Places.{found_number}
 use lib.ListN.{length, get_or, set}
 use Rattle.laws.specs.Lists.{all, all_pairs, index}
 use Rattle.laws.proofs.Conds.{and_left, and_right}
@@ -17,7 +20,7 @@ use Rattle.answers.specs.declared.Taking.TheVariants.{Nothing, Notification, Kee
 use Rattle.frame.specs.Limits.{greatest_context}
 use Rattle.mechanism.specs.Obeys.{mechanism_obeys}
 use Rattle.layout.specs.Message.{at_front}
-use Rattle.connection.specs.State.{connection_count, closed, lowest_due}
+use Rattle.connection.specs.State.{connection_count, closed, is_due, lowest_due}
 use Rattle.connection.specs.Obeys.{connection_obeys}
 use Rattle.connection.specs.Supervision.{sent_of, heartbeat_kept}
 use Rattle.connection.specs.declared.Connection.{Connection}
@@ -87,18 +90,6 @@ module _ (d : Device) (o : device_obeys d ≡ true) where
       pub entry_place : length d.connections ≡ 8 → (get_or d.subscriptions i e).connection < 8
       entry_place k = omega (arith, live_below d.connections (get_or d.subscriptions i e).connection read_sound.live)
 
--- ---- what is found
-pub index_meets : {A : Type 0} (p : A → Bool) (l : List A) (a : A) → index p l < length l → p (get_or l (index p l) a) ≡ true
-index_meets p [] a h = absurd (not-suc-le-zero h)
-index_meets {A} p (x ∷ l) a h = go (p x) refl h (λ k. index_meets p l a k)
-  where
-    go : (t : Bool) → p x ≡ t → cond t 0 (suc (index p l)) < suc (length l) → (index p l < length l → p (get_or l (index p l) a) ≡ true) → p (get_or (x ∷ l) (cond t 0 (suc (index p l))) a) ≡ true
-    go true e k f = e
-    go false e k f = f (le_of_suc-le-suc k)
-
-pub found_waits : (l : List Subscription) (i : ℕ) → i ≡ lowest_waiting l → length l ≡ 32 → i < 32 → is_waiting (get_or l i free) ≡ true
-found_waits l i e s h = rw e (index_meets is_waiting l free (omega arith))
-
 -- ---- what is sent
 pub notification_is : (d : Device) (i at k : ℕ) (out o : List ℕ) (t : Subscription) → t ≡ subscription_at d i → at ≡ place_of t.emitter
     → k ≡ length (notification_bytes t (get_or d.mutes at 0))
@@ -132,17 +123,36 @@ pub reminded_is : (d : Device) (n k : ℕ) (h : Heartbeat) (f : Device) (out o :
 unfolding reminding
 reminded_is d n k h f out o a p q e = rw (p, q, e, a)
 
+-- ---- what is found
+pub index_meets : {A : Type 0} (p : A → Bool) (l : List A) (a : A) → index p l < length l → p (get_or l (index p l) a) ≡ true
+index_meets p [] a h = absurd (not-suc-le-zero h)
+index_meets {A} p (x ∷ l) a h = go (p x) refl h (λ k. index_meets p l a k)
+  where
+    go : (t : Bool) → p x ≡ t → cond t 0 (suc (index p l)) < suc (length l) → (index p l < length l → p (get_or l (index p l) a) ≡ true) → p (get_or (x ∷ l) (cond t 0 (suc (index p l))) a) ≡ true
+    go true e k f = e
+    go false e k f = f (le_of_suc-le-suc k)
+
+pub entry_found : (l : List Subscription) (r : Option ℕ) → length l ≡ 32 → r ≡ position is_waiting l → IfSome r (λ n. n < 32)
+    → MatchOption r (lowest_waiting l ≡ 32) (λ at. (at ≡ lowest_waiting l) × (at < 32))
+entry_found l None e q h = sym (found_number is_waiting l 32 None q e)
+entry_found l (Some n) e q h = (found_number is_waiting l 32 (Some n) q e, h)
+
+pub due_found : (l : List Connection) (r : Option ℕ) → length l ≡ 8 → r ≡ position is_due l → IfSome r (λ n. n < 8)
+    → MatchOption r (lowest_due l ≡ 8) (λ n. (n ≡ lowest_due l) × (n < 8))
+due_found l None e q h = sym (found_number is_due l 8 None q e)
+due_found l (Some n) e q h = (found_number is_due l 8 (Some n) q e, h)
+
 -- ---- the ways of a take
-module _ (d : Device) (out : List ℕ) (i : ℕ) (qi : i ≡ lowest_waiting d.subscriptions) where
-  pub take_notified : i < entry_count → (o : Dispatch) → o ≡ notifying d out i → o ≡ dispatched d out
+module _ (d : Device) (out : List ℕ) where
+  pub take_notified : (i : ℕ) → i ≡ lowest_waiting d.subscriptions → i < 32 → (o : Dispatch) → o ≡ notifying d out i → o ≡ dispatched d out
   unfolding taken_by
-  take_notified h o e = rw (← qi, lt-ltb i entry_count h) e
+  take_notified i qi h o e = rw (← qi, lt-ltb i entry_count h) e
 
-  module _ (past : entry_count ≤ i) (n : ℕ) (qn : n ≡ lowest_due d.connections) where
-    pub take_reminded : n < connection_count → (o : Dispatch) → o ≡ reminding d out n → o ≡ dispatched d out
+  module _ (past : lowest_waiting d.subscriptions ≡ 32) where
+    pub take_reminded : (n : ℕ) → n ≡ lowest_due d.connections → n < 8 → (o : Dispatch) → o ≡ reminding d out n → o ≡ dispatched d out
     unfolding taken_by
-    take_reminded h o e = rw (← qi, le-ltb i entry_count past, ← qn, lt-ltb n connection_count h) e
+    take_reminded n qn h o e = rw (past, ← qn, lt-ltb n connection_count h) e
 
-    pub take_nothing : connection_count ≤ n → (f : Device) → f ≡ d → dispatch (taking_numbers Nothing) f out ≡ dispatched d out
+    pub take_nothing : lowest_due d.connections ≡ 8 → dispatch (taking_numbers Nothing) d out ≡ dispatched d out
     unfolding taken_by
-    take_nothing h f e = rw (e, ← qi, le-ltb i entry_count past, ← qn, le-ltb n connection_count h)
+    take_nothing qn = rw (past, qn)

@@ -1,4 +1,5 @@
 -- EveningInAHall: an evening call by call, each hypothesis of the technician's theorem of the real calls. Assumes nothing.
+use Rattle.std.specs.Prelude.{Some}
 use Prim.Native.Nat.{ℕ, zero, suc, ◌+◌, ◌*◌, ◌^◌, ◌<◌, ◌≤◌}
 use mathlib.Core.Path.{◌≡◌, refl, sym, ap, subst, ◌∙◌}
 use mathlib.Core.Bool.{Bool, true, false}
@@ -24,10 +25,8 @@ use Rattle.reader.specs.Examples.{keep_alive2s}
 use Rattle.replies.specs.Bytes.{least_output}
 use Rattle.device.specs.State.{fresh_of, open_of}
 use Rattle.device.specs.Time.{step_of}
-use Rattle.device.specs.declared.Opening.TheVariants as opens
 use Rattle.stream.specs.Calls.{deliver, ask, AllBytes}
 use Rattle.answers.specs.Numbers.{opening_numbers}
-use Rattle.answers.specs.declared.Opening.TheVariants as openings
 use Rattle.endpoint.specs.State.{state_of, fresh_state, record_obeys}
 use Rattle.endpoint.specs.Outcome.{Outcome, outcome}
 use Rattle.endpoint.specs.Calls.{opened_by, open_call, tick_call}
@@ -337,8 +336,8 @@ module _ (r : Record) (area : List ℕ) (two : Two r area) (m : List ℕ) (sound
           }
 
 -- ---- a fresh record, and two connections
-opened : (r : Record) (n : ℕ) → record_obeys r ≡ true → (open_of r.device).answer ≡ opens.Number n
-    → open_call r ≡ outcome (opening_numbers (openings.Number n)) (state_of (open_of r.device).device r.held) [] []
+opened : (r : Record) (n : ℕ) → record_obeys r ≡ true → (open_of r.device).answer ≡ Some n
+    → open_call r ≡ outcome (opening_numbers n) (state_of (open_of r.device).device r.held) [] []
 unfolding open_call opened_by
 opened r n o e = rw (o, e) refl
 
@@ -349,15 +348,15 @@ first = state_of (open_of (fresh_of 0)).device (zeros 8)
 abbrev second : Record
 second = state_of (open_of (open_of (fresh_of 0)).device).device (zeros 8)
 
-number_0 : (open_of (fresh_state 0).device).answer ≡ opens.Number 0
+number_0 : (open_of (fresh_state 0).device).answer ≡ Some 0
 unfolding fresh_state fresh_of open_of is_not_open
 number_0 = refl
 
-number_1 : (open_of first.device).answer ≡ opens.Number 1
+number_1 : (open_of first.device).answer ≡ Some 1
 unfolding fresh_of open_of is_not_open
 number_1 = refl
 
-opens_0 : open_call (fresh_state 0) ≡ outcome (opening_numbers (openings.Number 0)) first [] []
+opens_0 : open_call (fresh_state 0) ≡ outcome (opening_numbers 0) first [] []
 unfolding fresh_state
 opens_0 = opened (fresh_state 0) 0 (calls_keep.fresh 0).obeys number_0
 
@@ -365,7 +364,7 @@ kept_first : Kept first (zeros area_bytes)
 unfolding call_of
 kept_first = subst (λ (o : Outcome). Kept o.state (zeros area_bytes)) opens_0 (calls_keep.calling (fresh_state 0) (zeros area_bytes) (ask opening) tt (calls_keep.fresh 0))
 
-opens_1 : open_call first ≡ outcome (opening_numbers (openings.Number 1)) second [] []
+opens_1 : open_call first ≡ outcome (opening_numbers 1) second [] []
 opens_1 = opened first 1 kept_first.obeys number_1
 
 kept_second : Kept second (zeros area_bytes)

@@ -1,4 +1,5 @@
 -- What calls keep of the locks: the place of each, and that a channel is free for which nobody asks. Assumes nothing.
+use Rattle.std.specs.Prelude.{Option, Some, None}
 use Prim.Native.Nat.{ℕ, zero, suc, ◌^◌, ◌<◌}
 use mathlib.Core.Path.{◌≡◌, refl}
 use mathlib.Core.Bool.{true, false, not}
@@ -19,16 +20,10 @@ use Rattle.area.specs.Area.{area_sound, undecided_of}
 use Rattle.connection.specs.State.{live_at, is_not_open}
 use Rattle.connection.specs.declared.Connection.{Connection}
 use Rattle.holders.specs.Holders.{swept_holder}
-use Rattle.device.specs.State.{fresh_of, open_of, sweep_of, close_of, heard_at, sent_at, told_at, beating_at}
-use Rattle.device.specs.Time.{step_of, tick_step, tick_of}
+use Rattle.device.specs.State.{Opened, fresh_of, open_of, sweep_of, close_of, heard_at, sent_at, told_at, beating_at}
+use Rattle.device.specs.Time.{Ticked, step_of, tick_step, tick_of}
 use Rattle.device.specs.Run.{run_of}
 use Rattle.device.specs.declared.Device.{Device}
-use Rattle.device.specs.declared.Opened.{Opened}
-use Rattle.device.specs.declared.Opening.{Opening}
-use Rattle.device.specs.declared.Opening.TheVariants as opens
-use Rattle.device.specs.declared.Ticked.{Ticked}
-use Rattle.device.specs.declared.Ticking.{Ticking}
-use Rattle.device.specs.declared.Ticking.TheVariants as ticks
 use Rattle.serve.specs.Serve.{ran_with, ran_first, last_of}
 use Rattle.serve.specs.Sound.{Ruled, commands_of, kept_alive, sound_of}
 use Rattle.delivery.specs.Intake.{messaged, delivered_by, taken_in}
@@ -59,9 +54,9 @@ module _ (P : List ℕ → Type 0) (swept : (cs : List Connection) (hs : List �
     unfolding open_call opened_by open_of
     opened_keeps r p = either Of (record_obeys r) _ _ (go (open_of r.device).answer) p
       where
-        go : (x : Opening) → Of (opened_by x r (open_of r.device))
-        go (opens.Number n) = either (λ (o : Opened). P o.device.holders) (any is_not_open r.device.connections) _ _ p p
-        go opens.Full = p
+        go : (x : Option ℕ) → Of (opened_by x r (open_of r.device))
+        go (Some n) = either (λ (o : Opened). P o.device.holders) (any is_not_open r.device.connections) _ _ p p
+        go None = p
 
     closed_keeps : (r : Record) (area : List ℕ) (n : ℕ) → P r.device.holders → Of (close_call r area n)
     unfolding close_call closed_state close_of sweep_of
@@ -75,11 +70,11 @@ module _ (P : List ℕ → Type 0) (swept : (cs : List Connection) (hs : List �
     ticked_keeps r area reading p =
         either Of (record_obeys r) _ _ (either Of (area_sound r.held area) _ _ (go (tick_of r.device reading).answer) p) p
       where
-        go : (x : Ticking) → Of (ticked_by x r (tick_of r.device reading) area)
-        go (ticks.Closed k) =
+        go : (x : Option ℕ) → Of (ticked_by x r (tick_of r.device reading) area)
+        go (Some k) =
             either (λ (o : Ticked). P o.device.holders) (leb (2 ^ 31) (step_of reading r.device.reading)) _ _ p
             (swept _ r.device.holders p)
-        go ticks.ClockBack = p
+        go None = p
 
     taken_keeps : (r : Record) (out : List ℕ) → P r.device.holders → P (take_call r out).state.device.holders
     unfolding notified_of sent_at told_at

@@ -23,7 +23,7 @@ use Rattle.layout.specs.Message.{head_bytes, message}
 use Rattle.area.specs.Area.{undecided_of}
 use Rattle.objects.specs.Methods.{lock_method}
 use Rattle.objects.specs.Answers.{failed_of, answer_with}
-use Rattle.objects.specs.declared.Answer.{Answer}
+use Rattle.objects.specs.Answers.{Carried as Answer}
 use Rattle.holders.specs.Holders.{owner_of, is_other}
 use Rattle.replies.specs.Bytes.{least_output, response_bytes}
 use Rattle.device.specs.State.{heard_at, sent_at}

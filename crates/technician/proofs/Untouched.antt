@@ -1,4 +1,5 @@
 -- What a connection keeps in calls that are not about it: for Technician. Assumes nothing.
+use Rattle.std.specs.Prelude.{Option, Some, None}
 use Prim.Native.Nat.{ℕ, zero, suc, ◌+◌}
 use mathlib.Core.Path.{◌≡◌, refl, sym, ap, ◌∙◌}
 use mathlib.Core.Bool.{Bool, cond, true, false, not, ◌&&◌, ◌||◌}
@@ -30,12 +31,9 @@ use Rattle.frame.specs.Limits.{header_end, notification, keep_alive}
 use Rattle.frame.specs.Header.{pdu_type, message_count}
 use Rattle.frame.specs.Entry.{entry_size}
 use Rattle.fields.specs.Fields.{heartbeat_of}
-use Rattle.device.specs.State.{sweep_of, open_of, close_of, at_connection, heard_at, sent_at, told_at, beating_at}
+use Rattle.device.specs.State.{Opened, sweep_of, open_of, close_of, at_connection, heard_at, sent_at, told_at, beating_at}
 use Rattle.device.specs.Run.{holder_at, is_held_by_other, later_status, status_of, done_of, run_of}
 use Rattle.device.specs.Setters.{with_holders}
-use Rattle.device.specs.declared.Opened.{Opened}
-use Rattle.device.specs.declared.Opening.{Opening}
-use Rattle.device.specs.declared.Opening.TheVariants as opens
 use Rattle.device.specs.Closure.{is_lock_of, locks_of, Stays}
 use Rattle.device.specs.declared.Device.{Device}
 use Rattle.device.proofs.Closures.{closure_frees}
@@ -253,9 +251,9 @@ pub open_call_lem : (r : Record) (n : ℕ) → live_at r.device.connections n �
 unfolding open_call opened_by
 open_call_lem r n l = either (λ (o : Outcome). Same n r.device o.state.device) (record_obeys r) _ _ (go (open_of r.device).answer) (same_refl n r.device)
   where
-    go : (x : Opening) → Same n r.device (opened_by x r (open_of r.device)).state.device
-    go (opens.Number i) = open_same n r.device l
-    go opens.Full = same_refl n r.device
+    go : (x : Option ℕ) → Same n r.device (opened_by x r (open_of r.device)).state.device
+    go (Some i) = open_same n r.device l
+    go None = same_refl n r.device
 
 pub close_call_lem : (r : Record) (area : List ℕ) (k n : ℕ) → not (eqb k n) ≡ true → live_at r.device.connections n ≡ true → Same n r.device (close_call r area k).state.device
 unfolding close_call closed_state

@@ -1,4 +1,5 @@
 -- A tick and a connection that is watched, or that set no heartbeat: for Technician. Assumes nothing.
+use Rattle.std.specs.Prelude.{Option, Some, None}
 use Prim.Native.Nat.{◌-◌, ℕ, ◌+◌, ◌*◌, ◌<◌, ◌≤◌}
 use mathlib.Core.Path.{◌≡◌, refl, sym, ap, ◌∙◌}
 use mathlib.Core.Bool.{Bool, true≢false, true, false, not}
@@ -16,8 +17,6 @@ use Rattle.holders.specs.Holders.{holder_obeys, swept_holder}
 use Rattle.device.specs.State.{sweep_of, lives_in}
 use Rattle.device.specs.Time.{tick_step, tick_of}
 use Rattle.device.specs.declared.Device.{Device}
-use Rattle.device.specs.declared.Ticking.{Ticking}
-use Rattle.device.specs.declared.Ticking.TheVariants as ticks
 use Rattle.device.specs.Closure.{Stays, Passing}
 use Rattle.device.proofs.Closures.{closure_frees}
 use Rattle.stream.specs.Calls.{asked}
@@ -53,12 +52,12 @@ module _ (r : Record) (area : List ℕ) (reading : ℕ) where
   unfolding passes tick_call ticked_by
   refused_tick p = go (record_obeys r) refl (area_sound r.held area) refl (tick_of r.device reading).answer refl
     where
-      go : (o : Bool) → record_obeys r ≡ o → (a : Bool) → area_sound r.held area ≡ a → (x : Ticking) → (tick_of r.device reading).answer ≡ x
+      go : (o : Bool) → record_obeys r ≡ o → (a : Bool) → area_sound r.held area ≡ a → (x : Option ℕ) → (tick_of r.device reading).answer ≡ x
           → (tick_call r area reading).state.device ≡ r.device
       go false o a s x e = rw o
       go true o false s x e = rw (o, s)
-      go true o true s (ticks.Closed m) e = let z : true ≡ false = rw (o, s, e) at p in absurd (true≢false z)
-      go true o true s ticks.ClockBack e = rw (o, s, e)
+      go true o true s (Some m) e = let z : true ≡ false = rw (o, s, e) at p in absurd (true≢false z)
+      go true o true s None e = rw (o, s, e)
 
 -- the holder at a place once swept
 swept_at : (cs : List Connection) (hs : List ℕ) (at : ℕ) → get_or (map (swept_holder cs) hs) at 0 ≡ swept_holder cs (get_or hs at 0)

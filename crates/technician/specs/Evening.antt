@@ -4,7 +4,6 @@ use Rattle.numbers.specs.Status.{held_by_other}
 use Rattle.octets.specs.Zeros.{zeros}
 use Rattle.reader.specs.Examples.{keep_alive2s}
 use Rattle.answers.specs.Numbers.{opening_numbers}
-use Rattle.answers.specs.declared.Opening.TheVariants as openings
 use Rattle.area.specs.Area.{area_bytes}
 use Rattle.replies.specs.Bytes.{least_output}
 use Rattle.stream.specs.Calls.{deliver, ask}
@@ -69,7 +68,7 @@ pub record TakenOver (r : Record) (area m : List ℕ) (H last next : ℕ) : Type
 -- Theorem. The evening in a hall, with heartbeats of 2 s and of 30 s.
 pub record EveningInAHall : Type 0 where
   -- the tablet is connection 0, the technician's controller connection 1
-  pub tablet : (open_call (fresh_state 0)).answer ≡ opening_numbers (openings.Number 0)
-  pub technician : (open_call (open_call (fresh_state 0)).state).answer ≡ opening_numbers (openings.Number 1)
+  pub tablet : (open_call (fresh_state 0)).answer ≡ opening_numbers 0
+  pub technician : (open_call (open_call (fresh_state 0)).state).answer ≡ opening_numbers 1
   pub two_seconds : TakenOver hall.0 hall.1 keep_alive2s 2000 5999 6000
   pub thirty_seconds : TakenOver hall.0 hall.1 keep_alive30s 30000 89999 90000

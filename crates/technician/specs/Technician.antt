@@ -18,7 +18,6 @@ use Rattle.device.specs.Time.{step_of}
 use Rattle.device.specs.Closure.{Gone}
 use Rattle.stream.specs.Calls.{ask, AllBytes}
 use Rattle.answers.specs.Numbers.{ticking_numbers}
-use Rattle.answers.specs.declared.Ticking.TheVariants as tickings
 use Rattle.endpoint.specs.Outcome.{Outcome, refused}
 use Rattle.endpoint.specs.State.{fresh_state}
 use Rattle.endpoint.specs.Calls.{tick_call}
@@ -123,7 +122,7 @@ pub record Waits (c : Course) : Type 0 where
 -- R53. The tick closes connection n: its bit is set, nothing of the connection is left, its count is 0.
 pub record Closes (r : Record) (area : List ℕ) (reading n : ℕ) : Type 0 where
   pub mask : ℕ
-  pub answer : (tick_call r area reading).answer ≡ ticking_numbers (tickings.Closed mask)
+  pub answer : (tick_call r area reading).answer ≡ ticking_numbers mask
   pub bit : bit_of mask n ≡ true
   pub gone : Gone n r.device (tick_call r area reading).state.device
   pub bytes : held_at (tick_call r area reading).state n ≡ 0

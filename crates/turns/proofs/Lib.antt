@@ -1,3 +1,4 @@
+pub mod Worlds
+pub mod Outcomes
 pub mod Turnings
 pub mod Runs
-pub mod Worlds

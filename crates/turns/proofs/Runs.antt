@@ -1,50 +1,73 @@
 -- The loop's state: how it begins, how a turn carries it on, and what it comes to. Assumes nothing.
 use Prim.Native.Nat.{ℕ, ◌+◌, ◌≤◌, ◌<◌}
-use mathlib.Core.Path.{◌≡◌, refl, sym, ap, ◌∙◌}
+use mathlib.Core.Path.{◌≡◌, refl, sym, ap, ◌∙◌, subst}
 use mathlib.Core.List.{List, [], ◌∷◌, ◌++◌, append_assoc, append-nil}
-use mathlib.Core.Bool.{Bool, true, false, cond, ◌||◌, true≢false}
+use mathlib.Core.Bool.{Bool, true, false, cond}
 use native.Mathlib.Omega.{arith}
 use native.Mathlib.Nat.{zero-add}
 use lib.Dec.{eqb}
-use lib.ListN.{length, take, drop, length-take, length-drop, length-append, take-append-drop}
-use lib.Seq.{take-add, length-take-le, drop-drop}
+use lib.ListN.{length, take, drop, length-drop, length-append, take-append-drop}
+use lib.Seq.{take_all}
+use Rattle.std.proofs.lemmas.List.{drop_all}
 use borrow.Author.Tests.{eqb-true}
-use Rattle.laws.proofs.Parts.{nil_of}
-use Rattle.laws.proofs.Tables.{or_neither}
+use Rattle.std.specs.Prelude.{IfSome, Some, None, Ok, Err, IsOk, ◌≢◌}
+use Rattle.std.specs.declared.result.Result.{Result}
+use Rattle.std.specs.declared.option.Option.{Option}
+use Rattle.std.specs.Io.KnownBytes.{Consumes, Appends, IsAtEnd}
+use Rattle.std.proofs.KnownBytes.{Consumes-nil, Consumes-trans, Appends-nil, Appends-trans}
 use Rattle.split.specs.Split.{sound_messages}
 use Rattle.split.proofs.Splits.{sound_none_lem}
 use Rattle.lister.specs.Listing.{bytes_of, lines_of, listed_bytes, unlisted, listing_from, listing}
 use Rattle.lister.specs.Pieces.{over, piece_text, printed}
 use Rattle.lister.proofs.Walks.{lines_append, nothing_unsound}
 use Rattle.lister.proofs.Cuts.{end_over, listed_within, listed_more, unlisted_more, messages_more, listing_more, pieces_laws}
-use Rattle.turns.specs.Turns.{Turned}
-use Rattle.turns.specs.Ends.{ListingRuns, ListingEnds, TapeListed}
+use Rattle.turns.specs.Turns.{turn_text, Turned}
+use Rattle.turns.specs.Ends.{ListingRuns, ListingEnds}
 use Rattle.turns.specs.Scaffold.{greatest_offset}
-use Rattle.turns.specs.declared.State.{State}
+use Rattle.turns.specs.declared.Held.{Held}
+use Rattle.turns.specs.declared.Stopped.{Stopped}
+use Rattle.turns.specs.declared.Stopped.TheVariants.{Unread, Unsaid, Limit}
 
--- the first of two tests holds, where the second does not
-or_only : (a b : Bool) → b ≡ false → a || b ≡ true → a ≡ true
-or_only true b h e = refl
-or_only false b h e = absurd (true≢false (sym e ∙ h))
+-- known bytes are those that were read and those that are left
+known : (a b : Option (List ℕ)) (bs : List ℕ) (P : List ℕ → Type 0) → Consumes a b bs → ((l : List ℕ) → b ≡ Some l → P (bs ++ l)) → IfSome a P
+known None b bs P p h = tt
+known (Some x) None bs P p h = absurd p
+known (Some x) (Some y) bs P p h = subst P (sym p) (h y refl)
 
--- a front is at most the whole
-length_take_most : (n : ℕ) (l : List ℕ) → length (take n l) ≤ length l
-length_take_most n l = omega (arith, length-take n l)
+-- what is left, where it is known
+abbrev behind : Option (List ℕ) → List ℕ
+behind None = []
+behind (Some l) = l
+
+behind_is : (b : Option (List ℕ)) (l : List ℕ) → b ≡ Some l → behind b ≡ l
+behind_is b l e = ap behind e
+
+nothing_left : (b : Option (List ℕ)) → IsAtEnd b → behind b ≡ []
+nothing_left None e = refl
+nothing_left (Some l) e = e
+
+-- text for which there was no room behind some that was kept
+no_room : (room : Option ℕ) (text₀ text : Option (List ℕ)) (said a : List ℕ) (m : ℕ) → Appends text₀ text said → length said + length a ≤ m
+    → IfSome room (λ n. IfSome text (λ t. n < length t + length a)) → IfSome room (λ n. IfSome text₀ (λ k. n < length k + m))
+no_room None text₀ text said a m k l h = tt
+no_room (Some n) None text said a m k l h = tt
+no_room (Some n) (Some x) None said a m k l h = absurd k
+no_room (Some n) (Some x) (Some y) said a m k l h = omega (arith, h, l, ap length k, length-append x said)
 
 -- nothing was read
-pub running_none : (taped : Bool) (tape text input : List ℕ) → ListingRuns taped tape text input 0 0 0
+pub running_none : (left text : Option (List ℕ)) (input : List ℕ) → ListingRuns left left text text input 0 0
 unfolding listed_bytes unlisted bytes_of lines_of
-running_none taped tape text input =
+running_none left text input =
     let n = sound_none_lem [] (nothing_unsound [] (omega arith)) in
     record {
       seen = [];
       said = [];
       count = refl;
       listed = rw n;
-      left = rw n;
+      left_is = rw n;
       lines = rw n;
-      read = λ e. refl;
-      kept = λ e. refl;
+      read = Consumes-nil left;
+      kept = Appends-nil text;
     }
 
 -- the text of a piece, and then what the rest comes to
@@ -73,17 +96,40 @@ text_on : (e : Bool) (at : ℕ) (x : List ℕ) → over e x ≡ false → piece_
 unfolding piece_text
 text_on e at x o = rw (o, append-nil (lines_of at (sound_messages x)))
 
-module _ {taped : Bool} {tape text input : List ℕ} {offset held handed : ℕ} (g : ListingRuns taped tape text input offset held handed) where
+-- a text cut in two
+cut : (n : ℕ) (a b c : List ℕ) → (a ++ take n b) ++ (drop n b ++ c) ≡ a ++ (b ++ c)
+cut n a b c =
+    append_assoc a (take n b) (drop n b ++ c)
+    ∙ ap (λ (x : List ℕ). a ++ x) (sym (append_assoc (take n b) (drop n b) c) ∙ ap (λ (x : List ℕ). x ++ c) (take-append-drop n b))
+
+-- an error of the loop, and the place at which the offset came to its limit
+abbrev the_stop : Stopped → Result (Unit {0}) Stopped
+the_stop e = Err e
+
+same_error : {r : Result (Option Held) Stopped} (a b : Stopped) → r ≡ Err a → r ≡ Err b → the_stop a ≡ the_stop b
+same_error a b p q = cc
+
+stop_is : (a b : Stopped) → the_stop a ≡ the_stop b → a ≡ b
+stop_is a b e = cc
+
+at_limit : (a b : Held) → the_stop (Limit a) ≡ the_stop (Limit b) → a ≡ b
+at_limit a b e = cc
+
+-- a piece that is not empty goes on by the test of one that does not end the input
+still_on : (piece s : List ℕ) → 0 < length piece → over false s ≡ false → over (eqb (length piece) 0) s ≡ false
+still_on piece s h o = go (eqb (length piece) 0) refl
+  where
+    go : (b : Bool) → eqb (length piece) 0 ≡ b → over b s ≡ false
+    go true e = absurd (omega (arith, eqb-true (length piece) 0 e))
+    go false e = o
+
+module _ {left₀ left text₀ text : Option (List ℕ)} {input : List ℕ} {offset held : ℕ} (g : ListingRuns left₀ left text₀ text input offset held) where
   -- whatever follows what was read
   goes_on_with : (rest : List ℕ) → listing (g.seen ++ rest) ≡ g.said ++ listing_from offset (take held input ++ rest)
   unfolding listing
-  goes_on_with rest = rw (listing_more 0 g.seen rest, g.lines, g.left, g.listed, zero-add)
+  goes_on_with rest = rw (listing_more 0 g.seen rest, g.lines, g.left_is, g.listed, zero-add)
 
-  -- the tape is what was read and what is left
-  tape_parts : taped ≡ true → tape ≡ g.seen ++ drop (length g.seen) tape
-  tape_parts e = sym (take-append-drop (length g.seen) tape) ∙ ap (λ (x : List ℕ). x ++ drop (length g.seen) tape) (sym (g.read e))
-
-  module _ {text' input' out : List ℕ} {r : State} (t : Turned taped tape text text' offset (take held input) handed input' out r) (few : held ≤ length input) (place : handed ≤ length text) where
+  module _ {left' text' : Option (List ℕ)} {sure : Bool} {room room' : Option ℕ} {input' out : List ℕ} {r : Result (Option Held) Stopped} (t : Turned left left' sure text text' room room' offset (take held input) input' out r) where
     s : List ℕ
     s = take held input ++ t.piece
 
@@ -93,33 +139,7 @@ module _ {taped : Bool} {tape text input : List ℕ} {offset held handed : ℕ} 
     seen : List ℕ
     seen = g.seen ++ t.piece
 
-    place_is : offset + length (take held input) ≡ length g.seen
-    place_is = ap (λ (n : ℕ). offset + n) (length-take-le held input few) ∙ g.count
-
-    seen_read : taped ≡ true → seen ≡ take (length seen) tape
-    unfolding seen
-    seen_read e =
-        let n = length t.piece in
-        let f : t.piece ≡ take n (drop (length g.seen) tape) = rw place_is at (t.from_tape e).read in
-        rw (length-append g.seen t.piece, take-add (length g.seen) n tape, ← f, ← g.read e)
-
-    -- what is left of the tape behind the piece
-    behind : taped ≡ true → drop (length g.seen) tape ≡ t.piece ++ drop (length seen) tape
-    unfolding seen
-    behind e =
-        let n = length t.piece in
-        let d = drop (length g.seen) tape in
-        let f : t.piece ≡ take n d = rw place_is at (t.from_tape e).read in
-        sym (take-append-drop n d) ∙ rw (← f, drop-drop n (length g.seen) tape, length-append g.seen t.piece)
-
-    behind_end : taped ≡ true → e₀ ≡ true → drop (length seen) tape ≡ []
-    unfolding seen e₀
-    behind_end e z =
-        let n = eqb-true (length t.piece) 0 z in
-        let f = (t.from_tape e).end n in
-        nil_of (drop (length (g.seen ++ t.piece)) tape) (omega (arith, place_is, length-append g.seen t.piece, length-drop (length (g.seen ++ t.piece)) tape))
-
-    -- the listing of what was read, or of the tape
+    -- the listing of what was read and of what follows
     from_here : (rest : List ℕ) → (e₀ ≡ true → rest ≡ [])
         → listing (seen ++ rest) ≡ g.said ++ (piece_text e₀ offset s ++ cond (over e₀ s) [] (listing_from (offset + listed_bytes s) (unlisted s ++ rest)))
     unfolding seen s e₀
@@ -127,149 +147,118 @@ module _ {taped : Bool} {tape text input : List ℕ} {offset held handed : ℕ} 
         rw (append_assoc g.seen t.piece rest, goes_on_with (t.piece ++ rest), ← append_assoc (take held input) t.piece rest)
         (ap (λ (x : List ℕ). g.said ++ x) (piece_listing (eqb (length t.piece) 0) offset (take held input ++ t.piece) rest h))
 
-    tape_here : taped ≡ true → listing tape ≡ g.said ++ (piece_text e₀ offset s ++ cond (over e₀ s) [] (listing_from (offset + listed_bytes s) (unlisted s ++ drop (length seen) tape)))
-    tape_here e =
-        let p : tape ≡ seen ++ drop (length seen) tape = sym (take-append-drop (length seen) tape) ∙ ap (λ (x : List ℕ). x ++ drop (length seen) tape) (sym (seen_read e)) in
-        ap listing p ∙ from_here (drop (length seen) tape) (behind_end e)
+    seen_read : Consumes left₀ left' seen
+    unfolding seen
+    seen_read = Consumes-trans left₀ left left' g.seen t.piece g.read t.read
 
     -- a turn that is not the last
-    pub running_more : r.over ≡ false → ListingRuns taped tape text' input' r.offset r.held r.handed
+    pub running_more : (h : Held) → r ≡ Ok (Some h) → ListingRuns left₀ left' text₀ text' input' h.offset h.held
     unfolding seen s listed_bytes
-    running_more o =
-        let q = t.goes o in
-        let neither = or_neither (over (eqb (length t.piece) 0) (take held input ++ t.piece)) t.unwritten (sym t.ends ∙ o) in
+    running_more h o =
+        let q = t.goes h o in
         let a = g.seen in
         let b = unlisted a ++ t.piece in
-        let sb : take held input ++ t.piece ≡ b = ap (λ (x : List ℕ). x ++ t.piece) g.left in
-        let e : r.offset ≡ listed_bytes (a ++ t.piece) = q.next ∙ rw (sb, g.listed, listed_more a t.piece) in
+        let sb : take held input ++ t.piece ≡ b = ap (λ (x : List ℕ). x ++ t.piece) g.left_is in
+        let e : h.offset ≡ listed_bytes (a ++ t.piece) = q.next ∙ rw (sb, g.listed, listed_more a t.piece) in
         let l : unlisted (take held input ++ t.piece) ≡ unlisted (a ++ t.piece) = ap unlisted sb ∙ sym (unlisted_more a t.piece) in
-        let n : r.held ≡ length (unlisted (a ++ t.piece)) = q.count ∙ ap length l in
+        let n : h.held ≡ length (unlisted (a ++ t.piece)) = q.count ∙ ap length l in
+        let w = turn_text offset (take held input) t.piece in
+        let v : take t.taken w ≡ lines_of offset (sound_messages b) =
+        take_all t.taken w (omega (arith, t.all (rw o refl))) ∙ text_on (eqb (length t.piece) 0) offset (take held input ++ t.piece) (still_on t.piece (take held input ++ t.piece) q.some q.on) ∙ rw sb in
         record {
           seen = a ++ t.piece;
           said = g.said ++ lines_of offset (sound_messages b);
           count = rw (e, n) (listed_left (a ++ t.piece));
           listed = e;
-          left = q.kept ∙ l;
+          left_is = q.kept ∙ l;
           lines = rw (messages_more (length a) a t.piece (omega arith), lines_append 0 (sound_messages a) (sound_messages b), g.lines, g.listed, zero-add);
           read = seen_read;
-          kept = λ w. (t.keeps w).all neither.1 ∙ rw (g.kept w, text_on (eqb (length t.piece) 0) offset (take held input ++ t.piece) neither.0, sb);
+          kept = subst (λ x. Appends text₀ text' (g.said ++ x)) v (Appends-trans text₀ text text' g.said (take t.taken w) g.kept t.takes);
         }
 
-    -- the last turn, with its text handed over
-    last_said : t.unwritten ≡ false → r.over ≡ true → ListingEnds taped tape text' r
+    -- what was not handed over, if so many bytes follow
+    unsaid_of : List ℕ → List ℕ
+    unsaid_of rest = drop t.taken (piece_text e₀ offset s) ++ cond (over e₀ s) [] (listing_from (offset + listed_bytes s) (unlisted s ++ rest))
+
+    front_of : (rest : List ℕ) → (e₀ ≡ true → rest ≡ []) → (g.said ++ take t.taken (piece_text e₀ offset s)) ++ unsaid_of rest ≡ listing (seen ++ rest)
+    unfolding unsaid_of
+    front_of rest h = cut t.taken g.said (piece_text e₀ offset s) _ ∙ sym (from_here rest h)
+
+    -- all was
+    all_said : (o : r ≡ Ok None) → (rest : List ℕ) → unsaid_of rest ≡ []
+    unfolding unsaid_of s e₀
+    all_said o rest = rw (t.last o, drop_all t.taken (piece_text e₀ offset s) (omega (arith, t.all (rw o refl))))
+
+    -- the bytes that are left behind the piece, which are none where it ends the input
+    ended : r ≢ Err Unread → e₀ ≡ true → behind left' ≡ []
+    unfolding e₀
+    ended u z = nothing_left left' (t.end u (eqb-true (length t.piece) 0 z))
+
+    -- the last turn: all of its text was handed over, or something failed
+    longer : r ≢ Err Unread → (l : List ℕ) → left' ≡ Some l → length g.said + length (piece_text e₀ offset s) ≤ length (listing (seen ++ l))
+    longer u l i =
+        let c = cond (over e₀ s) [] (listing_from (offset + listed_bytes s) (unlisted s ++ l)) in
+        let h : e₀ ≡ true → l ≡ [] = λ z. sym (behind_is left' l i) ∙ ended u z in
+        omega (arith, ap length (from_here l h), length-append g.said (piece_text e₀ offset s ++ c), length-append (piece_text e₀ offset s) c)
+
+    running_last : (x : Result (Unit {0}) Stopped) → (IsOk x → r ≡ Ok None) → ((e : Stopped) → x ≡ Err e → r ≡ Err e) → ListingEnds left₀ left' sure text₀ text' room x
     unfolding seen s e₀
-    last_said u o =
-        let b : over e₀ s ≡ true = or_only (over e₀ s) t.unwritten u (sym t.ends ∙ o) in
-        let w : g.said ++ piece_text e₀ offset s ≡ listing seen =
-        sym (ap listing (sym (append-nil seen)) ∙ from_here [] (λ z. refl) ∙ rw b (ap (λ (x : List ℕ). g.said ++ x) (append-nil (piece_text e₀ offset s)))) in
+    running_last x fine failed =
+        let w = piece_text e₀ offset s in
+        let f = front_of [] (λ z. refl) ∙ ap listing (append-nil seen) in
+        let read_on : x ≢ Err Unread → r ≢ Err Unread = still_read x fine failed in
         record {
           seen = seen;
-          said = g.said ++ piece_text e₀ offset s;
-          unsaid = [];
-          front = append-nil (g.said ++ piece_text e₀ offset s) ∙ w;
-          whole = λ x y. w;
-          limit = λ x. absurd (true≢false (sym o ∙ x));
-          count = λ x. absurd (true≢false (sym o ∙ x));
+          said = g.said ++ take t.taken w;
+          unsaid = unsaid_of [];
+          front = f;
+          whole = λ o. sym (append-nil (g.said ++ take t.taken w)) ∙ ap (λ (y : List ℕ). (g.said ++ take t.taken w) ++ y) (sym (all_said (fine o) [])) ∙ f;
+          limit = λ h e. absurd (t.counted h (failed (Limit h) e));
+          count = λ h e. absurd (t.counted h (failed (Limit h) e));
           read = seen_read;
-          place = t.within;
-          rest = [];
-          kept = λ e. (t.keeps e).all u ∙ rw (g.kept e);
-          taped_front = λ e. append-nil (g.said ++ piece_text e₀ offset s) ∙ sym (tape_here e ∙ rw b (ap (λ (x : List ℕ). g.said ++ x) (append-nil (piece_text e₀ offset s))));
-          taped_whole = λ e x y. refl;
-          full = λ e x. absurd (true≢false (sym x ∙ t.tape_read e ∙ u));
+          kept = Appends-trans text₀ text text' g.said (take t.taken w) g.kept t.takes;
+          told = λ y e. t.told y (failed Unread e);
+          rest = unsaid_of (behind left');
+          known_front = λ u. known left₀ left' seen (λ x. (g.said ++ take t.taken w) ++ unsaid_of (behind left') ≡ listing x) seen_read (λ l i. rw (← behind_is left' l i) (front_of (behind left') (ended (read_on u))));
+          known_whole = λ o. all_said (fine o) (behind left');
+          full = λ e. known left₀ left' seen (λ x. IfSome room (λ n. IfSome text₀ (λ k. n < length k + length (listing x)))) seen_read
+              (λ l i. no_room room text₀ text g.said w (length (listing (seen ++ l))) g.kept (longer (said_read (failed Unsaid e)) l i) (t.full (failed Unsaid e)));
         }
-
-    longer : t.unwritten ≡ true → taped ≡ true → length text' < length (listing tape)
-    unfolding s e₀
-    longer u e =
-        let a = piece_text e₀ offset s in
-        let b = cond (over e₀ s) [] (listing_from (offset + listed_bytes s) (unlisted s ++ drop (length seen) tape)) in
-        let k : length g.said ≡ handed = ap length (sym (g.kept e)) ∙ length-take-le handed text place in
-        let f : length text' < handed + length a = (t.keeps e).full u in
-        omega (arith, ap length (tape_here e), length-append g.said (a ++ b), length-append a b)
-
-    -- the last turn, with its text not handed over
-    last_unsaid : t.unwritten ≡ true → r.over ≡ true → ListingEnds taped tape text' r
-    unfolding seen
-    last_unsaid u o =
-        record {
-          seen = seen;
-          said = g.said;
-          unsaid = piece_text e₀ offset s ++ cond (over e₀ s) [] (listing_from (offset + listed_bytes s) (unlisted s ++ []));
-          front = sym (from_here [] (λ z. refl)) ∙ ap listing (append-nil seen);
-          whole = λ x y. absurd (true≢false (sym u ∙ t.fails y));
-          limit = λ x. absurd (true≢false (sym o ∙ x));
-          count = λ x. absurd (true≢false (sym o ∙ x));
-          read = seen_read;
-          place = t.within;
-          rest = piece_text e₀ offset s ++ cond (over e₀ s) [] (listing_from (offset + listed_bytes s) (unlisted s ++ drop (length seen) tape));
-          kept = λ e. (t.keeps e).none u ∙ g.kept e;
-          taped_front = λ e. sym (tape_here e);
-          taped_whole = λ e x y. absurd (true≢false (sym u ∙ t.fails y));
-          full = λ e x. longer u e;
-        }
-
-    pub running_last : r.over ≡ true → ListingEnds taped tape text' r
-    running_last o = go t.unwritten refl
       where
-        go : (u : Bool) → t.unwritten ≡ u → ListingEnds taped tape text' r
-        go true u = last_unsaid u o
-        go false u = last_said u o
+        still_read : (x : Result (Unit {0}) Stopped) → (IsOk x → r ≡ Ok None) → ((e : Stopped) → x ≡ Err e → r ≡ Err e) → x ≢ Err Unread → r ≢ Err Unread
+        still_read (Ok y) fine failed n e = let q = fine refl in cc
+        still_read (Err z) fine failed n e = n (same_error z Unread (failed z refl) e)
+
+        said_read : r ≡ Err Unsaid → r ≢ Err Unread
+        said_read q e = cc
+
+    pub running_over : r ≡ Ok None → ListingEnds left₀ left' sure text₀ text' room (Ok tt)
+    running_over o = running_last (Ok tt) (λ x. o) (λ e q. cc)
+
+    pub running_failed : (e : Stopped) → r ≡ Err e → ListingEnds left₀ left' sure text₀ text' room (Err e)
+    running_failed e o = running_last (Err e) (λ x. cc) (λ f q. o ∙ ap Err (stop_is e f q))
 
   -- the offset's limit
-  pub running_limit : greatest_offset ≤ offset → handed ≤ length text → ListingEnds taped tape text (record { offset = offset; held = held; handed = handed; over = false; failed = false })
-  running_limit n place =
+  pub running_limit : (sure : Bool) (room : Option ℕ) → greatest_offset ≤ offset
+      → ListingEnds left₀ left sure text₀ text room (Err (Limit (record { offset = offset; held = held })))
+  running_limit sure room n =
       record {
         seen = g.seen;
         said = g.said;
         unsaid = listing_from offset (take held input ++ []);
         front = sym (goes_on_with []) ∙ ap listing (append-nil g.seen);
-        whole = λ x y. absurd (true≢false (sym x));
-        limit = λ x. n;
-        count = λ x. g.count;
+        whole = λ x. cc;
+        limit = λ h e. rw (← at_limit _ h e) n;
+        count = λ h e. rw (← at_limit _ h e) g.count;
         read = g.read;
-        place = place;
-        rest = listing_from offset (take held input ++ drop (length g.seen) tape);
         kept = g.kept;
-        taped_front = λ e. sym (ap listing (tape_parts e) ∙ goes_on_with (drop (length g.seen) tape));
-        taped_whole = λ e x y. absurd (true≢false (sym x));
-        full = λ e x. absurd (true≢false (sym x));
+        told = λ x e. cc;
+        rest = listing_from offset (take held input ++ behind left);
+        known_front = λ u. known left₀ left g.seen (λ x. g.said ++ listing_from offset (take held input ++ behind left) ≡ listing x) g.read (λ l i. rw (← behind_is left l i) (sym (goes_on_with (behind left))));
+        known_whole = λ x. cc;
+        full = λ x. cc;
       }
 
--- over a tape whose offsets can be counted, with room for its listing
-pub tape_listed : {tape text : List ℕ} {r : State} → ListingEnds true tape text r → TapeListed tape text r.handed
-tape_listed {tape} {text} {r} z =
-    record {
-      rest = z.rest;
-      place = z.place;
-      front = rw (z.kept refl) (z.taped_front refl);
-      whole = λ few room. z.taped_whole refl (go few r.over refl) (on room r.failed refl);
-    }
-  where
-    go : length tape < greatest_offset → (b : Bool) → r.over ≡ b → r.over ≡ true
-    go few true e = e
-    go few false e = absurd (omega (arith, z.limit e, z.count e, ap length (z.read refl), length_take_most (length z.seen) tape))
-
-    on : length (listing tape) ≤ length text → (b : Bool) → r.failed ≡ b → r.failed ≡ false
-    on room true e = absurd (omega (arith, z.full refl e))
-    on room false e = e
-
--- without a tape, whatever stands in its place
-pub untaped : {tape text : List ℕ} {r : State} → ListingEnds false tape text r → ListingEnds false [] text r
-untaped z =
-    record {
-      seen = z.seen;
-      said = z.said;
-      unsaid = z.unsaid;
-      front = z.front;
-      whole = z.whole;
-      limit = z.limit;
-      count = z.count;
-      place = z.place;
-      rest = [];
-      read = λ e. absurd (true≢false (sym e));
-      kept = λ e. absurd (true≢false (sym e));
-      taped_front = λ e. absurd (true≢false (sym e));
-      taped_whole = λ e x y. refl;
-      full = λ e. absurd (true≢false (sym e));
-    }
+-- the same room
+pub ends_same : {left₀ left text₀ text : Option (List ℕ)} {sure : Bool} {room room₀ : Option ℕ} {r : Result (Unit {0}) Stopped} → room ≡ room₀ → ListingEnds left₀ left sure text₀ text room r → ListingEnds left₀ left sure text₀ text room₀ r
+ends_same {left₀} {left} {text₀} {text} {sure} {room} {room₀} {r} e z = subst (λ m. ListingEnds left₀ left sure text₀ text m r) e z

@@ -1,27 +1,32 @@
 -- One turn of the listing, as a law on lists. Assumes nothing.
 use Prim.Native.Nat.{ℕ, ◌+◌, ◌-◌, ◌≤◌, ◌<◌}
-use mathlib.Core.Path.{◌≡◌, refl, sym, ap, ◌∙◌}
+use mathlib.Core.Path.{◌≡◌, refl, sym, ap, ◌∙◌, subst}
 use mathlib.Core.List.{List, ◌++◌}
-use mathlib.Core.Bool.{Bool, true, false, ◌||◌, true≢false}
+use mathlib.Core.Bool.{Bool, true, false, true≢false}
 use native.Mathlib.Omega.{arith}
 use native.Mathlib.Nat.{zero-add}
 use lib.Dec.{eqb}
 use lib.ListN.{length, take, drop, length-drop, length-append}
 use lib.Seq.{sets, length-sets, take_at, take-add, length-take-le}
 use borrow.Author.Tests.{eqb-false}
+use Rattle.std.specs.Prelude.{IfSome, IsOk, IsErr, Ok, Err, Some, ◌≢◌}
+use Rattle.std.specs.Result.{IsOkUnless, result_unwrap_or}
+use Rattle.std.specs.declared.result.Result.{Result}
+use Rattle.std.specs.Io.KnownBytes.{IsAtEnd}
+use Rattle.std.specs.declared.option.Option.{Option}
 use Rattle.laws.proofs.Parts.{drop_take}
 use Rattle.laws.proofs.Stores.{sets_front}
-use Rattle.laws.proofs.Tables.{or_neither}
 use Rattle.frame.specs.Limits.{greatest_size}
 use Rattle.lister.specs.Listing.{listed_bytes, unlisted}
 use Rattle.lister.specs.Pieces.{over, piece_text, ListsPiece}
 use Rattle.lister.specs.declared.Piece.{Piece}
 use Rattle.lister.proofs.Cuts.{end_over, listed_within, pieces_laws}
-use Rattle.turns.specs.Turns.{Goes, Turned}
+use Rattle.turns.specs.Turns.{Goes, turn_text, Turned}
 use Rattle.turns.specs.Scaffold.{ReadsMore, HandsOver}
-use Rattle.turns.specs.declared.State.{State}
-use Rattle.turns.specs.declared.Came.{Came}
-use Rattle.turns.specs.declared.Wrote.{Wrote}
+use Rattle.turns.specs.declared.Held.{Held}
+use Rattle.turns.specs.declared.Stopped.{Stopped}
+use Rattle.turns.specs.declared.Stopped.TheVariants.{Unread, Unsaid}
+use Rattle.turns.proofs.Outcomes.{outcome_of, unread_none, read_fine, unread_failed, unsaid_failed, all_fine, next_is, over_is, no_limit, on_ok, on_err}
 
 -- what was put at the front of the output
 put_front : (out text : List ℕ) → length text ≤ length out → take (length text) (sets out 0 text) ≡ text
@@ -35,76 +40,103 @@ on_some got s o = go (eqb got 0) o
     go true o = absurd (true≢false (sym (end_over s) ∙ o))
     go false o = refl
 
-module _ (taped : Bool) (tape i₀ i₁ i₂ o₀ o₁ t₀ t₁ : List ℕ) (offset held handed : ℕ) (few : held ≤ length i₀) (c : Came) (p : Piece) (w : Wrote)
-    (q : ReadsMore taped tape (offset + held) held i₀ i₁ c)
-    (l : ListsPiece (eqb c.count 0) offset (take (held + c.count) i₁) o₀ o₁ p)
-    (h : HandsOver taped (take p.put o₁) t₀ handed t₁ w)
-    (m : i₂ ≡ take (held + c.count - p.used) (drop p.used i₁) ++ drop (held + c.count - p.used) i₁) where
+module _ (l₀ l₁ : Option (List ℕ)) (sure : Bool) (x₀ x₁ : Option (List ℕ)) (m₀ m₁ : Option ℕ) (i₀ i₁ i₂ o₀ o₁ : List ℕ) (offset held : ℕ) (few : held ≤ length i₀)
+    (c : Result ℕ Stopped) (n : ℕ) (z : n ≡ result_unwrap_or c 0) (p : Piece) (u : Result (Unit {0}) Stopped)
+    (q : ReadsMore l₀ l₁ sure held i₀ i₁ c) (unread : IsOkUnless c Unread)
+    (l : ListsPiece (eqb n 0) offset (take (held + n) i₁) o₀ o₁ p)
+    (h : HandsOver x₀ x₁ m₀ m₁ (take p.put o₁) u) (unsaid : IsOkUnless u Unsaid)
+    (m : i₂ ≡ take (held + n - p.used) (drop p.used i₁) ++ drop (held + n - p.used) i₁) where
   came : List ℕ
-  came = take c.count (drop held i₁)
+  came = take n (drop held i₁)
 
-  came_length : length came ≡ c.count
+  fits : held + n ≤ length i₁
+  fits = rw z q.fits
+
+  came_length : length came ≡ n
   unfolding came
-  came_length = length-take-le c.count (drop held i₁) (omega (arith, length-drop held i₁, q.fits))
+  came_length = length-take-le n (drop held i₁) (omega (arith, length-drop held i₁, fits))
 
-  held_length : length (take held i₀) ≡ held
-  held_length = length-take-le held i₀ few
-
-  joins : take (held + c.count) i₁ ≡ take held i₀ ++ came
+  joins : take (held + n) i₁ ≡ take held i₀ ++ came
   unfolding came
-  joins = take-add held c.count i₁ ∙ ap (λ (x : List ℕ). x ++ take c.count (drop held i₁)) q.same
+  joins = take-add held n i₁ ∙ ap (λ (x : List ℕ). x ++ take n (drop held i₁)) q.same
 
-  kept : take (held + c.count - p.used) i₂ ≡ unlisted (take (held + c.count) i₁)
+  kept : take (held + n - p.used) i₂ ≡ unlisted (take (held + n) i₁)
   unfolding unlisted
   kept =
-      let a = take (held + c.count - p.used) (drop p.used i₁) in
-      let n : length a ≡ held + c.count - p.used = length-take-le (held + c.count - p.used) (drop p.used i₁) (omega (arith, length-drop p.used i₁, q.fits)) in
-      rw (m, ← l.used) (take_at a _ (held + c.count - p.used) n ∙ sym (drop_take p.used (held + c.count) i₁))
+      let a = take (held + n - p.used) (drop p.used i₁) in
+      let k : length a ≡ held + n - p.used = length-take-le (held + n - p.used) (drop p.used i₁) (omega (arith, length-drop p.used i₁, fits)) in
+      rw (m, ← l.used) (take_at a _ (held + n - p.used) k ∙ sym (drop_take p.used (held + n) i₁))
 
-  goes : over (eqb c.count 0) (take (held + c.count) i₁) ≡ false → (k : ℕ) (r f : Bool)
-      → Goes offset (take held i₀) came i₂ (record { offset = offset + p.used; held = held + c.count - p.used; handed = k; over = r; failed = f })
-  unfolding unlisted
-  goes o k r f =
-      let z = on_some c.count (take (held + c.count) i₁) o in
-      let nz = eqb-false c.count 0 z in
-      let t = length-take-le (held + c.count) i₁ q.fits in
+  next : Held
+  next = record { offset = offset + p.used; held = held + n - p.used }
+
+  goes : over (eqb n 0) (take (held + n) i₁) ≡ false → Goes offset (take held i₀) came i₂ next
+  unfolding unlisted next
+  goes o =
+      let e = on_some n (take (held + n) i₁) o in
+      let nz = eqb-false n 0 e in
+      let t = length-take-le (held + n) i₁ fits in
       record {
         some = omega (arith, came_length);
-        on = rw (← joins) (ap (λ (b : Bool). over b (take (held + c.count) i₁)) (sym z) ∙ o);
+        on = rw (← joins) (ap (λ (b : Bool). over b (take (held + n) i₁)) (sym e) ∙ o);
         next = rw (← joins, l.used);
-        count = rw (← joins, ← l.used) (sym (length-drop p.used (take (held + c.count) i₁) ∙ omega arith));
+        count = rw (← joins, ← l.used) (sym (length-drop p.used (take (held + n) i₁) ∙ omega arith));
         kept = rw (← joins) kept;
       }
 
   -- the text that is handed over
   put_text : take p.put o₁ ≡ piece_text (eqb (length came) 0) offset (take held i₀ ++ came)
   put_text =
-      let t = piece_text (eqb c.count 0) offset (take (held + c.count) i₁) in
+      let t = piece_text (eqb n 0) offset (take (held + n) i₁) in
       rw (came_length, ← joins, l.puts.text, l.puts.next, zero-add)
       (put_front o₀ t (omega (arith, l.room, l.puts.next, ap length l.puts.text, length-sets o₀ 0 t)))
 
   put_length : length (piece_text (eqb (length came) 0) offset (take held i₀ ++ came)) ≡ p.put
   put_length = rw (← put_text) (length-take-le p.put o₁ l.room)
 
-  pub turned : Turned taped tape t₀ t₁ offset (take held i₀) handed i₂ o₁
-      (record { offset = offset + p.used; held = held + c.count - p.used; handed = w.handed; over = p.over || w.failed; failed = c.failed || w.failed })
-  unfolding came
-  turned =
-      record {
+  outcome : Result (Option Held) Stopped
+  outcome = outcome_of c u p.over next
+
+  turned_all : IsOk u → h.taken ≡ length (turn_text offset (take held i₀) came)
+  turned_all o = on_ok u o h.all ∙ ap length put_text
+
+  turned_full : IsErr u → IfSome m₀ (λ n. IfSome x₀ (λ t. n < length t + length (turn_text offset (take held i₀) came)))
+  turned_full o = rw put_text at (on_err u o h.full)
+
+  turned_goes : (x : Held) → outcome ≡ Ok (Some x) → Goes offset (take held i₀) came i₂ x
+  unfolding outcome
+  turned_goes x e =
+      let w = next_is c u p.over next x e in
+      rw w.1 (goes (sym l.over ∙ w.0))
+
+  turned_end : outcome ≢ Err Unread → length came ≡ 0 → IsAtEnd l₁
+  unfolding outcome
+  turned_end o e = on_ok c (read_fine c u p.over next unread o) q.end (sym z ∙ sym came_length ∙ e)
+
+  pub turned : (r : Result (Option Held) Stopped) → outcome_of c u p.over (record { offset = offset + p.used; held = held + n - p.used }) ≡ r
+      → Turned l₀ l₁ sure x₀ x₁ m₀ m₁ offset (take held i₀) i₂ o₁ r
+  unfolding came outcome next
+  turned r i =
+      subst (λ (r : Result (Option Held) Stopped). Turned l₀ l₁ sure x₀ x₁ m₀ m₁ offset (take held i₀) i₂ o₁ r) i
+      (record {
         piece = came;
-        unwritten = w.failed;
-        text = rw put_length put_text;
-        ends = rw (came_length, ← joins, l.over);
-        fails = λ e. (or_neither c.failed w.failed e).1;
-        goes = λ e. goes (sym l.over ∙ (or_neither p.over w.failed e).0) w.handed (p.over || w.failed) (c.failed || w.failed);
-        within = h.within;
-        from_tape = λ e. record { read = rw (came_length, held_length) (q.read e); end = λ z. rw held_length (q.end e (sym came_length ∙ z)) };
-        keeps = λ e. rw (← put_text) (h.keeps e);
-        tape_read = λ e. ap (λ (b : Bool). b || w.failed) (q.told e);
-      }
+        taken = h.taken;
+        put = rw put_length put_text;
+        goes = turned_goes;
+        last = λ e. rw (came_length, ← joins) (sym l.over ∙ over_is c u p.over next e);
+        counted = λ x. no_limit c u p.over next x unread unsaid;
+        read = rw z q.read;
+        end = turned_end;
+        none = λ e. came_length ∙ z ∙ unread_none c u p.over next unsaid e;
+        told = λ s e. unread_failed c u p.over next unsaid e (q.told s);
+        takes = rw (← put_text) h.takes;
+        all = λ e. turned_all (all_fine c u p.over next e);
+        full = λ e. turned_full (unsaid_failed c u p.over next unread e);
+        same = h.same;
+      })
 
 -- few bytes are held, and more bytes than before are read
-pub goes_on : {offset : ℕ} {held piece input : List ℕ} {r : State} → Goes offset held piece input r
+pub goes_on : {offset : ℕ} {held piece input : List ℕ} {r : Held} → Goes offset held piece input r
     → (r.held ≤ greatest_size) × (offset + length held < r.offset + r.held)
 unfolding unlisted
 goes_on {offset} {held} {piece} {input} {r} g =

@@ -1,278 +1,162 @@
-// The listing's loop: a piece is read and listed, and its text handed over to be written, until the last line.
-//
-// What read and write do is outside every contract. So the loop runs over a tape too: bytes in memory that are read piece by piece as
-// a reader is, and room there for the text. What is proved of the loop over a tape names every byte read and handed over.
+//! The listing's loop: a piece is read and listed, and its text handed over to be written, until the last line.
+//!
+//! The loop runs over any [`Source`] and [`Sink`]. Of a file or a standard stream no clause says which bytes it gives or gets; where they
+//! are known, as in memory, what is proved of the loop names every byte that was read and handed over. It is one loop, and one proof.
 #![tactic(auto)]
 
-ghost use Rattle.std.specs.Prelude.{◌≡◌, true, ◌+◌, ◌≤◌, ◌<◌, length, take, drop};
-ghost use Rattle.std.proofs.lemmas.List.Edits.{sets};
+ghost use Rattle.std.specs.Prelude.{◌≡◌, ◌<◌, length, take, IsOkUnless};
 ghost use Rattle.turns.specs.Ends.{ListingEnds, DescriptorListed, TapeListed};
-ghost use Rattle.turns.specs.Scaffold.{piece_bytes, ReadsMore, HandsOver, TurnReady};
+ghost use Rattle.turns.specs.Scaffold.{TurnReady, ReadsMore, HandsOver};
 ghost use Rattle.turns.specs.Turns.{Turned};
 
-use std::io::{Read, Write, empty, sink};
+use sink::{Page, Sink};
+use source::{Source, Tape, Through};
+use std::io::{Read, Write};
 
-// The input's buffer. A message has at least 10 bytes and a line at most 40, so io's large buffer has room for the lines of a piece.
+pub mod sink;
+pub mod source;
+
+/// The bytes of the input's buffer. A message has at least 10 bytes and a line at most 40, so io's large buffer has room for the lines of
+/// a piece.
 pub const PIECE: usize = 16000;
 
-// Below it every offset of a piece fits 64 bits.
+/// Below it every offset of a piece fits 64 bits.
 pub const GREATEST_OFFSET: u64 = 18446744073709500000;
 
-// Where the input is read, and where its text goes.
-#[derive(Clone, Copy)]
-pub struct Source {
-    // a tape is read and the text kept; else the reader is read, and the text goes to the writer
-    pub taped: bool,
-    // a read from the tape takes at most so many bytes; 0: as many as there is room for
-    pub most: usize,
-}
-
-#[derive(Clone, Copy)]
-struct Came {
-    // the bytes read: none where the input ends or cannot be read
-    count: usize,
-    failed: bool,
-}
-
-#[derive(Clone, Copy)]
-struct Wrote {
-    // the bytes of text that are kept
-    handed: usize,
-    failed: bool,
-}
-
-#[derive(Clone, Copy)]
-pub struct State {
-    // the offset of the first byte held
+/// What is read and not yet listed: `held` bytes at the front of the input's buffer, of which the first stands at `offset` of the input.
+#[derive(Clone, Copy, Debug, PartialEq, Eq)]
+pub struct Held {
     pub offset: u64,
     pub held: usize,
-    // over a tape: the bytes of text handed over
-    pub handed: usize,
-    pub over: bool,
-    // the input could not be read, or the text not be written
-    pub failed: bool,
 }
 
-fn least(a: usize, b: usize) -> usize
-    ensures { (result ≤ a) × (result ≤ b) × (0 < a → 0 < b → 0 < result) }
-{
-    if a < b { a } else { b }
+/// Why a listing stopped otherwise than with the last line of its whole input.
+#[derive(Clone, Copy, Debug, PartialEq, Eq)]
+pub enum Stopped {
+    /// The input could not be read. What came before is listed as if it had ended there.
+    Unread,
+    /// Not all of the text could be handed over.
+    Unsaid,
+    /// The offset came to its limit.
+    Limit(Held),
 }
 
-// How many bytes a read takes where so many are left on the tape.
-fn portion(most: usize, left: usize, room: usize) -> usize
-    ensures { (result ≤ left) × (result ≤ room) × (0 < left → 0 < room → 0 < result) }
-{
-    let n = least(left, room);
-    if most == 0 {
-        return n;
-    }
-    least(most, n)
-}
-
-// Reads from place at of the tape behind the bytes held.
-fn read_tape(tape: &[u8], at: usize, most: usize, buf: &mut [u8], held: usize) -> usize
-    requires { held < length buf.old }
-    ensures { (held + result ≤ length buf.old) × (result ≤ length (drop at tape.now))
-        × (result ≡ 0 → length tape.now ≤ at)
-        × (buf.new ≡ sets buf.old held (take result (drop at tape.now))) }
-{
-    if tape.len() <= at {
-        return 0;
-    }
-    let n = portion(most, tape.len() - at, buf.len() - held);
-    let end = at + n;
-    octets::copy(&tape[at..end], buf, held);
-    n
-}
-
-// Reads behind the bytes held, the first of which stands at the offset.
-#[tactic(auto, using(crate::proofs::Worlds::reads_tape, crate::proofs::Worlds::reads_in))]
-fn read_more<R: Read, E: Write>(
-    source: Source,
-    reader: &mut R,
+// Reads behind the bytes held, and tells if that cannot be done.
+fn read_piece<S: Source, E: Write>(
+    source: &mut S,
     errors: &mut E,
-    tape: &[u8],
-    offset: u64,
     buf: &mut [u8],
     held: usize,
-) -> Came
-    requires { (held < length buf.old) × (offset + held < 18446744073709551616) }
-    ensures { ReadsMore source.taped tape.now (offset + held) held buf.old buf.new result }
+) -> Result<usize, Stopped>
+    requires { held < length buf.old }
+    ensures reads { ReadsMore (S.left source.old) (S.left source.new) S.sure held buf.old buf.new result }
+    ensures unread { IsOkUnless result Stopped.Unread }
+    ensures same_reference { S.name source.new ≡ S.name source.old }
 {
-    if source.taped {
-        let at = offset as usize + held;
-        return Came {
-            count: read_tape(tape, at, source.most, buf, held),
-            failed: false,
-        };
-    }
-    match reader.read(&mut buf[held..]) {
-        Ok(count) => Came {
-            count,
-            failed: false,
-        },
+    match source.read_more(buf, held) {
+        Ok(count) => Ok(count),
         Err(_) => {
             let _ = errors.write_all(b"listing: the input cannot be read\n");
-            Came {
-                count: 0,
-                failed: true,
-            }
+            Err(Stopped::Unread)
         }
     }
 }
 
-// Keeps s behind the text that was handed over before, if there is room.
-#[tactic(auto, using(crate::proofs::Worlds::kept_none, crate::proofs::Worlds::kept_all))]
-fn keep(s: &[u8], text: &mut [u8], handed: usize) -> Wrote
-    requires { handed ≤ length text.old }
-    ensures { HandsOver true s.now text.old handed text.new result }
+// Hands some text over, and tells if that cannot be done.
+fn hand_over<K: Sink, E: Write>(sink: &mut K, errors: &mut E, text: &[u8]) -> Result<(), Stopped>
+    ensures hands { HandsOver (K.text sink.old) (K.text sink.new) (K.room sink.old) (K.room sink.new) text.now result }
+    ensures unsaid { IsOkUnless result Stopped.Unsaid }
+    ensures same_reference { K.name sink.new ≡ K.name sink.old }
 {
-    if text.len() - handed < s.len() {
-        return Wrote {
-            handed,
-            failed: true,
-        };
-    }
-    octets::copy(s, text, handed);
-    Wrote {
-        handed: handed + s.len(),
-        failed: false,
+    match sink.hand_over(text) {
+        Ok(()) => Ok(()),
+        Err(_) => {
+            let _ = errors.write_all(b"listing: the output cannot be written\n");
+            Err(Stopped::Unsaid)
+        }
     }
 }
 
-// Hands s over to be written, or kept behind the text.
-#[tactic(auto, using(crate::proofs::Worlds::hands_out))]
-fn hand_over<W: Write, E: Write>(
-    source: Source,
-    writer: &mut W,
+// Reads once, lists what came behind the bytes held, hands the text over, and keeps what is left: nothing behind the last line.
+fn turn<S: Source, K: Sink, E: Write>(
+    source: &mut S,
+    sink: &mut K,
     errors: &mut E,
-    s: &[u8],
-    text: &mut [u8],
-    handed: usize,
-) -> Wrote
-    requires { handed ≤ length text.old }
-    ensures { HandsOver source.taped s.now text.old handed text.new result }
-{
-    if source.taped {
-        return keep(s, text, handed);
-    }
-    let is_written = writer.write_all(s).is_ok();
-    if !is_written {
-        let _ = errors.write_all(b"listing: the output cannot be written\n");
-    }
-    Wrote {
-        handed,
-        failed: !is_written,
-    }
-}
-
-// Reads once, lists what came behind the bytes held, hands the text over, and keeps what is left.
-#[tactic(auto, using(crate::proofs::Turnings::turned))]
-fn turn<R: Read, W: Write, E: Write>(
-    source: Source,
-    reader: &mut R,
-    writer: &mut W,
-    errors: &mut E,
-    tape: &[u8],
     input: &mut [u8],
     out: &mut [u8],
-    text: &mut [u8],
     offset: u64,
     held: usize,
-    handed: usize,
-) -> State
-    requires { TurnReady input.old out.old text.old offset held handed }
-    ensures { Turned source.taped tape.now text.old text.new offset
-        (take held input.old) handed input.new out.new result }
+) -> Result<Option<Held>, Stopped>
+    requires { TurnReady input.old out.old offset held }
+    ensures turned { Turned (S.left source.old) (S.left source.new) S.sure (K.text sink.old) (K.text sink.new) (K.room sink.old)
+        (K.room sink.new) offset (take held input.old) input.new out.new result }
+    ensures same_references { (S.name source.new ≡ S.name source.old) × (K.name sink.new ≡ K.name sink.old) }
 {
-    let came = read_more(source, reader, errors, tape, offset, input, held);
-    let got = came.count;
+    let came = read_piece(source, errors, input, held);
+    let got = came.unwrap_or(0);
     let end = held + got;
     let done = lister::list_piece(&input[..end], offset, out, got == 0);
-    let put = done.put;
     let used = done.used;
-    let wrote = hand_over(source, writer, errors, &out[..put], text, handed);
+    let said = hand_over(sink, errors, &out[..done.put]);
     lister::move_down(input, used, end - used);
-    State {
+    came?;
+    said?;
+    if done.over {
+        return Ok(None);
+    }
+    Ok(Some(Held {
         offset: offset + used as u64,
         held: end - used,
-        handed: wrote.handed,
-        over: done.over | wrote.failed,
-        failed: came.failed | wrote.failed,
-    }
+    }))
 }
 
-fn input_buffer() -> [u8; PIECE]
-    ensures { piece_bytes ≡ length result }
-{
-    [0; PIECE]
-}
-
-// Lists what is read until the last line is handed over, a write fails, or the offset comes to its limit.
+/// Lists what the source gives until the last line is handed over, which `Ok` says. What cannot be read or handed over is told to `errors`.
 // Each turn but the last reads a byte or more, so offset and bytes held grow to their limit.
-#[tactic(auto, using(crate::proofs::Turnings::goes_on, crate::proofs::Runs::running_none, crate::proofs::Runs::running_more, crate::proofs::Runs::running_last, crate::proofs::Runs::running_limit))]
-pub fn list_from<R: Read, W: Write, E: Write>(
-    source: Source,
-    reader: &mut R,
-    writer: &mut W,
+pub fn list_from<S: Source, K: Sink, E: Write>(
+    source: &mut S,
+    sink: &mut K,
     errors: &mut E,
-    tape: &[u8],
-    text: &mut [u8],
-) -> State
-    ensures { ListingEnds source.taped tape.now text.new result }
+) -> Result<(), Stopped>
+    ensures ends { ListingEnds (S.left source.old) (S.left source.new) S.sure (K.text sink.old) (K.text sink.new) (K.room sink.old) result }
+    ensures same_references { (S.name source.new ≡ S.name source.old) × (K.name sink.new ≡ K.name sink.old) }
 {
-    let mut space = input_buffer();
+    let mut space = [0u8; PIECE];
     let mut lines = io::large_buffer();
-    let input: &mut [u8] = &mut space;
-    let out: &mut [u8] = &mut lines;
     let mut offset = 0;
     let mut held = 0;
-    let mut handed = 0;
     while offset < GREATEST_OFFSET {
-        let t = turn(
-            source, reader, writer, errors, tape, input, out, text, offset, held, handed,
-        );
-        if t.over {
-            return t;
+        match turn(source, sink, errors, &mut space, &mut lines, offset, held)? {
+            Some(next) => {
+                offset = next.offset;
+                held = next.held;
+            }
+            None => return Ok(()),
         }
-        offset = t.offset;
-        held = t.held;
-        handed = t.handed;
     }
-    State {
-        offset,
-        held,
-        handed,
-        over: false,
-        failed: false,
-    }
+    Err(Stopped::Limit(Held { offset, held }))
 }
 
-// Lists what the reader gives on the writer. The answer is false where a read or a write failed, or the offset came to its limit.
-#[tactic(auto, using(crate::proofs::Runs::untaped))]
+/// Lists what a reader gives to a writer: whether its whole input was listed. Nothing failed then, and the offset stayed below its limit.
 pub fn list<R: Read, W: Write, E: Write>(reader: &mut R, writer: &mut W, errors: &mut E) -> bool
-    ensures { DescriptorListed result }
+    ensures { DescriptorListed (R.remaining reader.old) (R.remaining reader.new) (W.contents writer.old) (W.contents writer.new) result }
 {
-    let source = Source {
-        taped: false,
-        most: 0,
-    };
-    let mut none: [u8; 1] = [0];
-    let t = list_from(source, reader, writer, errors, b"", &mut none);
-    t.over & !t.failed
+    let mut source = Through { at: reader };
+    let mut sink = Through { at: writer };
+    list_from(&mut source, &mut sink, errors).is_ok()
 }
 
-// Lists a tape that is read in pieces of at most so many bytes, and answers how many bytes of text it kept.
-#[tactic(auto, using(crate::proofs::Runs::tape_listed))]
+/// Lists a tape that is read in pieces of at most so many bytes, 0: as many as there is room for. Answers how many bytes of text it kept.
 pub fn list_tape(tape: &[u8], most: usize, text: &mut [u8]) -> usize
     ensures { TapeListed tape.now text.new result }
 {
-    let source = Source { taped: true, most };
-    list_from(source, &mut empty(), &mut sink(), &mut sink(), tape, text).handed
+    let most = if most == 0 { usize::MAX } else { most };
+    let mut source = Tape { rest: tape, most };
+    let mut page = Page { text, handed: 0 };
+    let _ = list_from(&mut source, &mut page, &mut std::io::sink());
+    page.handed
 }
 
-// Lists standard input on standard output.
+/// Lists standard input on standard output.
 pub fn run(rt: &HostRuntime) {
     list(&mut rt.stdin(), &mut rt.stdout(), &mut rt.stderr());
 }

@@ -1,4 +1,5 @@
 -- MessagesOfBytes: the messages handed to the rules are those of the bytes taken. Assumes nothing.
+use Rattle.std.specs.Prelude.{Option, Some, None}
 use Prim.Native.Nat.{ℕ, zero, suc, ◌-◌, ◌^◌}
 use mathlib.Core.Path.{◌≡◌, refl, sym, ap, ◌∙◌}
 use mathlib.Core.Bool.{Bool, cond, true, false, not, ◌&&◌, true≢false}
@@ -29,13 +30,8 @@ use Rattle.connection.specs.declared.Connection.{Connection}
 use Rattle.connection.proofs.Keeps.{supervision_kept}
 use Rattle.subscription.specs.State.{lowest_waiting}
 use Rattle.device.specs.State.{fresh_of, open_of, close_of, sweep_of, sent_at}
-use Rattle.device.specs.Time.{step_of, tick_step, tick_of}
+use Rattle.device.specs.Time.{Ticked, step_of, tick_step, tick_of}
 use Rattle.device.specs.declared.Device.{Device}
-use Rattle.device.specs.declared.Opening.{Opening}
-use Rattle.device.specs.declared.Opening.TheVariants as opens
-use Rattle.device.specs.declared.Ticked.{Ticked}
-use Rattle.device.specs.declared.Ticking.{Ticking}
-use Rattle.device.specs.declared.Ticking.TheVariants as ticks
 use Rattle.serve.specs.Sound.{sound_of}
 use Rattle.taking.specs.Dispatch.{notified_of}
 use Rattle.taking.proofs.Takes.{index_meets}
@@ -43,7 +39,8 @@ use Rattle.replies.specs.Bytes.{least_output}
 use Rattle.stream.specs.Calls.{deliver, ask, handed, asked, Held, none_held, put, only, rules, AllBytes}
 use Rattle.stream.proofs.Lent.{Small, put_same, put_other, get_d_counted, undecided_flat}
 use Rattle.answers.specs.Numbers.{opening_numbers}
-use Rattle.answers.specs.declared.Opening.TheVariants as openings
+use Rattle.numbers.specs.Refusal.{refusal_numbers}
+use Rattle.numbers.specs.declared.Refusal.TheVariants as refusals
 use Rattle.endpoint.specs.State.{fresh_state}
 use Rattle.endpoint.specs.Outcome.{Outcome}
 use Rattle.endpoint.specs.declared.Record.{Record}
@@ -99,7 +96,7 @@ record Opens (d : Device) (i : ℕ) : Type 0 where
   free : live_at d.connections i ≡ false
   others : (k : ℕ) → eqb i k ≡ false → live_at (open_of d).device.connections k ≡ true → live_at d.connections k ≡ true
 
-opened_new : (d : Device) (i : ℕ) → (open_of d).answer ≡ opens.Number i → Opens d i
+opened_new : (d : Device) (i : ℕ) → (open_of d).answer ≡ Some i → Opens d i
 unfolding open_of
 opened_new d i = go (any is_not_open d.connections) refl
   where
@@ -115,9 +112,9 @@ opened_new d i = go (any is_not_open d.connections) refl
         (index_meets is_not_open d.connections closed
         (ltb-true (lowest_free d.connections) (length d.connections) (sym (any_index is_not_open d.connections) ∙ b))))
 
-    go : (b : Bool) → any is_not_open d.connections ≡ b → (open_of d).answer ≡ opens.Number i → Opens d i
+    go : (b : Bool) → any is_not_open d.connections ≡ b → (open_of d).answer ≡ Some i → Opens d i
     go true b e =
-        let q : opens.Number (lowest_free d.connections) ≡ opens.Number i = rw b at e in
+        let q : Some (lowest_free d.connections) ≡ Some i = rw b at e in
         let j : lowest_free d.connections ≡ i = cc in
         record { free = found b j; others = λ k x l. other j k x (rw b at l) }
       where
@@ -126,7 +123,7 @@ opened_new d i = go (any is_not_open d.connections) refl
         other j k x l =
             unfold live_at in
             sym (ap (λ (c : Connection). c.live) (get_or-set_other d.connections (lowest_free d.connections) k opened closed (λ q. eqb-false i k x (sym (q ∙ j))))) ∙ l
-    go false b e = let q : opens.Full ≡ opens.Number i = rw b at e in absurd (let z : ◌≡◌ {A = ℕ} 0 1 = cc in omega arith)
+    go false b e = let q : None ≡ Some i = rw b at e in absurd (let z : ◌≡◌ {A = ℕ} 0 1 = cc in omega arith)
 
 -- ---- what stands of one connection
 
@@ -232,7 +229,7 @@ handed_turn n d (tells g) ms = ms
 handed_turn n d (hands k w) ms = handed_after n w (rule d w).1.answer ms
 
 -- the answers of an opening
-number_opens : (n i : ℕ) → opens_number n (opening_numbers (openings.Number i)) ≡ eqb i n
+number_opens : (n i : ℕ) → opens_number n (opening_numbers i) ≡ eqb i n
 unfolding opens_number same_bytes
 number_opens n i = rw (eq-eqb 0 0 refl) (go (eqb i n))
   where
@@ -240,7 +237,7 @@ number_opens n i = rw (eq-eqb 0 0 refl) (go (eqb i n))
     go true = refl
     go false = refl
 
-full_opens : (n : ℕ) → opens_number n (opening_numbers openings.TableFull) ≡ false
+full_opens : (n : ℕ) → opens_number n (refusal_numbers refusals.TableFull) ≡ false
 unfolding opens_number same_bytes
 full_opens n = rw (ne_eqb 5 0 (λ e. omega arith))
 
@@ -337,11 +334,11 @@ module _ (d : Device) (h : Held) (w : Waits d h) (n : ℕ) (bytes : List ℕ) (m
   unfolding rule taken_after handed_after open_by close_by rulebook.tick_by reset_by
   ask_turn opening = go (open_of d).answer refl
     where
-      go : (x : Opening) → (open_of d).answer ≡ x
+      go : (x : Option ℕ) → (open_of d).answer ≡ x
           → let t = open_by x d (open_of d).device in
           Stands t.0 (only (open? t.0) h) n (cond (opens_number n t.1.answer) [] bytes) (cond (opens_number n t.1.answer) [] ms)
-      go (opens.Number i) e = rw (number_opens n i) (opened_turn i (opened_new d i e) (eqb i n) refl)
-      go opens.Full e = rw (full_opens n) (still_turn d (λ l. l))
+      go (Some i) e = rw (number_opens n i) (opened_turn i (opened_new d i e) (eqb i n) refl)
+      go None e = rw (full_opens n) (still_turn d (λ l. l))
   ask_turn (closing k) = go (live_at d.connections k)
     where
       go : (b : Bool) → let t = close_by b d k in Stands t.0 (only (open? t.0) h) n bytes ms
@@ -349,9 +346,9 @@ module _ (d : Device) (h : Held) (w : Waits d h) (n : ℕ) (bytes : List ℕ) (m
       go false = still_turn d (λ l. l)
   ask_turn (ticking reading) = go (tick_of d reading).answer
     where
-      go : (x : Ticking) → let t = rulebook.tick_by x d (tick_of d reading).device in Stands t.0 (only (open? t.0) h) n bytes ms
-      go (ticks.Closed mask) = still_turn (tick_of d reading).device (tick_back d reading n)
-      go ticks.ClockBack = still_turn d (λ l. l)
+      go : (x : Option ℕ) → let t = rulebook.tick_by x d (tick_of d reading).device in Stands t.0 (only (open? t.0) h) n bytes ms
+      go (Some mask) = still_turn (tick_of d reading).device (tick_back d reading n)
+      go None = still_turn d (λ l. l)
   ask_turn (taking out) =
       let i = lowest_waiting d.subscriptions in
       let j = lowest_due d.connections in

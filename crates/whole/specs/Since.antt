@@ -9,7 +9,6 @@ use Rattle.device.specs.State.{fresh_of}
 use Rattle.device.specs.declared.Device.{Device}
 use Rattle.stream.specs.Calls.{deliver, ask, handed, asked, Held, none_held, AllBytes}
 use Rattle.answers.specs.Numbers.{opening_numbers}
-use Rattle.answers.specs.declared.Opening.TheVariants as openings
 use Rattle.endpoint.specs.State.{fresh_state}
 use Rattle.endpoint.specs.Outcome.{Outcome}
 use Rattle.endpoint.specs.declared.Record.{Record}
@@ -20,7 +19,7 @@ use Rattle.promise.specs.Whole.{wholes_of, by_rules}
 
 -- R58, R66. The answer says that connection n was opened.
 unfoldable pub opens_number : ℕ → List ℕ → Bool
-opens_number n answer = same_bytes answer (opening_numbers (openings.Number n))
+opens_number n answer = same_bytes answer (opening_numbers n)
 
 -- R28, R66. The bytes of a piece that a delivery's answer says were taken; a refusal has one number, and none are.
 unfoldable pub taken_part : List ℕ → List ℕ → List ℕ

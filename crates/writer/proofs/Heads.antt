@@ -4,6 +4,7 @@ use mathlib.Core.Path.{◌≡◌, refl, sym, ap, ◌∙◌}
 use mathlib.Core.List.{List, [], ◌∷◌, ◌++◌, append_assoc}
 use mathlib.Core.Bool.{true}
 use native.Mathlib.Omega.{arith}
+use Rattle.std.specs.Prelude.{None}
 use lib.ListN.{length, take, drop, get_or, length-append, take-append-drop}
 use lib.Seq.{take_at, drop_at, take-take, take-add, drop-cons}
 use borrow.Author.Tests.{le-ltb}
@@ -58,8 +59,8 @@ module _ (kind count : ℕ) (body rest : List ℕ) where
       let h = head_bytes kind count (size_of body) in
       rw (take_at m rest (length body + 10) (length_message kind count body)) (drop_at h body 10 (length_head kind count (size_of body)))
 
-  module _ (low : kind ≤ keep_alive) (small : size_of body ≤ greatest_size) (few : count < 65536) (some : count_fault kind count ≡ 0) where
-    no_fault : header_fault whole ≡ 0
+  module _ (low : kind ≤ keep_alive) (small : size_of body ≤ greatest_size) (few : count < 65536) (some : count_fault kind count ≡ None) where
+    no_fault : header_fault whole ≡ None
     unfolding header_fault fields_fault
     no_fault =
         rw (version_of, size_of_lem small, type_of, count_of few)

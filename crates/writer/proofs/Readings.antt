@@ -6,6 +6,7 @@ use mathlib.Core.Bool.{Bool, cond, true, false, ◌&&◌}
 use native.Mathlib.Omega.{arith}
 use native.Mathlib.Numerals.{add-one}
 use lib.Dec.{ltb, leb, eqb}
+use Rattle.std.specs.Prelude.{None}
 use lib.ListN.{length, get_or, drop}
 use lib.Seq.{ext_get_or}
 use borrow.Author.Tests.{eq-eqb, ne_eqb, lt-ltb, le-ltb, ltb-false, leb-true, eqb-true}
@@ -125,7 +126,7 @@ append_way buf kind e n h = go (ltb (length buf) least_room) (decide buf) refl h
 
 -- a message at a buffer's front: a keep-alive, or entries
 front_holds : (buf : List ℕ) (kind count : ℕ) (body : List ℕ) → size_of body ≤ greatest_size → kind ≤ keep_alive → count < 65536
-    → count_fault kind count ≡ 0 → data_sound kind count body ≡ true → Holds (at_front (message kind count body) buf) (length body + 10) kind count body
+    → count_fault kind count ≡ None → data_sound kind count body ≡ true → Holds (at_front (message kind count body) buf) (length body + 10) kind count body
 unfolding at_front
 front_holds buf kind count body z k c f d = message_holds kind count body (drop (length (message kind count body)) buf) k z c f d
 

@@ -7,7 +7,6 @@ use native.Mathlib.Omega.{arith}
 use lib.Dec.{ltb, eqb}
 use lib.ListN.{length, get_or}
 use borrow.Author.Tests.{ltb-true}
-use Rattle.laws.proofs.Inverse.{undone_tells}
 use Rattle.octets.specs.Numbers.{bytes16, bytes32}
 use Rattle.heartbeat.specs.Beat.{seconds_form, milliseconds_form, greatest_seconds, greatest_milliseconds}
 use Rattle.frame.specs.Limits.{greatest_size}
@@ -17,10 +16,11 @@ use Rattle.frame.specs.Decide.{decide}
 use Rattle.frame.specs.declared.Decision.{Decision}
 use Rattle.frame.specs.declared.Decision.TheVariants.{Undecided, Faulty, Sound}
 use Rattle.frame.proofs.Ways.{deciding}
-use Rattle.numbers.specs.Refusal.{fault, not_refused, no_room, too_long, bad_entry}
+use Rattle.numbers.specs.Refusal.{no_room, too_long, bad_entry}
 use Rattle.reader.specs.Read.{data_of}
-use Rattle.writer.specs.declared.Written.{Written}
-use Rattle.writer.specs.declared.Written.TheVariants.{Length, NoRoom, Fault, TooLong, BadEntry}
+use Rattle.std.specs.Prelude.{Result}
+use Rattle.numbers.specs.declared.Refusal.{Refusal}
+use Rattle.reader.proofs.Tells.{answer_tells}
 use Rattle.writer.specs.Numbers.{written_numbers, Writing, writing}
 use Rattle.layout.specs.Message.{size_of, message, beat_bytes}
 use Rattle.writer.specs.Write.{least_room, unwritten, written, offered, start_of, append_sound, append_by, append_of, beat_fits, keep_alive_of}
@@ -45,25 +45,11 @@ read_after_write =
       );
     }
 
--- an answer made again from its numbers
-written_back : List ℕ → Written
-written_back l =
-    cond (eqb (get_or l 0 0) not_refused) (Length (get_or l 1 0))
-    (cond (eqb (get_or l 0 0) no_room) NoRoom
-    (cond (eqb (get_or l 0 0) fault) (Fault (get_or l 1 0)) (cond (eqb (get_or l 0 0) too_long) TooLong BadEntry)))
+written_tells : (a b : Result ℕ Refusal) → written_numbers a ≡ written_numbers b → a ≡ b
+unfolding written_numbers
+written_tells = answer_tells written_numbers (λ l. get_or l 1 0) (λ n. refl) (λ n. refl) (λ r. refl)
 
-written_back_lem : (r : Written) → written_back (written_numbers r) ≡ r
-unfolding written_back written_numbers
-written_back_lem (Length n) = refl
-written_back_lem NoRoom = refl
-written_back_lem (Fault f) = refl
-written_back_lem TooLong = refl
-written_back_lem BadEntry = refl
-
-written_tells : (a b : Written) → written_numbers a ≡ written_numbers b → a ≡ b
-written_tells = undone_tells written_numbers written_back written_back_lem
-
-one_result : (o : Writing) (a b : Written) (s t : List ℕ) → writing a s ≡ o → writing b t ≡ o → (a ≡ b) × (s ≡ t)
+one_result : (o : Writing) (a b : Result ℕ Refusal) (s t : List ℕ) → writing a s ≡ o → writing b t ≡ o → (a ≡ b) × (s ≡ t)
 one_result o a b s t p q =
     let e = p ∙ sym q in
     (written_tells a b (ap (λ (x : Writing). x.answer) e), ap (λ (x : Writing). x.buffer) e)

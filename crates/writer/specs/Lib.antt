@@ -1,3 +1,4 @@
 pub mod Numbers
 pub mod Write
 pub mod Round
+pub mod Scaffold

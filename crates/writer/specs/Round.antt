@@ -1,5 +1,5 @@
 -- What is written is read as it was given, and one result is allowed: R19 to R27 together.
-use Rattle.std.specs.Prelude.{ℕ, zero, suc, ◌+◌, ◌≤◌, ◌<◌, ◌≡◌, List, [], ◌∷◌, ◌++◌, length, get_or, drop}
+use Rattle.std.specs.Prelude.{ℕ, zero, suc, ◌+◌, ◌≤◌, ◌<◌, ◌≡◌, List, [], ◌∷◌, ◌++◌, Result, length, get_or, drop}
 use Rattle.laws.specs.Lists.{joined}
 use Rattle.heartbeat.specs.Beat.{seconds_form, milliseconds_form, greatest_seconds, greatest_milliseconds}
 use Rattle.frame.specs.Limits.{header_end, keep_alive}
@@ -10,7 +10,7 @@ use Rattle.numbers.specs.Refusal.{no_entry, not_refused, no_room}
 use Rattle.reader.specs.Read.{data_of, read_of}
 use Rattle.reader.specs.Entry.{fields_of, entry_at, entry_of, part_of}
 use Rattle.reader.specs.Context.{entry_context}
-use Rattle.writer.specs.declared.Written.{Written}
+use Rattle.numbers.specs.declared.Refusal.{Refusal}
 use Rattle.writer.specs.Numbers.{written_numbers}
 use Rattle.layout.specs.Message.{message, at_front}
 use Rattle.writer.specs.Write.{least_room, start_of, append_of, keep_alive_of, Starts, Appends, WritesKeepAlive}
@@ -63,12 +63,12 @@ pub record ReadAfterWrite : Type 0 where
       ≡ not_refused ∷ 14 ∷ keep_alive ∷ 1 ∷ milliseconds_form ∷ greatest_milliseconds ∷ [])
 
 -- R68. A promise over an answer and the buffer after it allows one of each.
-abbrev pub AllowsOneWriting : (Written → List ℕ → Type 0) → Type 0
-AllowsOneWriting promise = (a b : Written) (s t : List ℕ) → promise a s → promise b t → (a ≡ b) × (s ≡ t)
+abbrev pub AllowsOneWriting : (Result ℕ Refusal → List ℕ → Type 0) → Type 0
+AllowsOneWriting promise = (a b : Result ℕ Refusal) (s t : List ℕ) → promise a s → promise b t → (a ≡ b) × (s ≡ t)
 
 -- Theorem. Each call's promise allows one answer and one buffer, to the last byte.
 pub record OneResult : Type 0 where
-  pub numbers : (a b : Written) → written_numbers a ≡ written_numbers b → a ≡ b
+  pub numbers : (a b : Result ℕ Refusal) → written_numbers a ≡ written_numbers b → a ≡ b
   pub start : (buf : List ℕ) (kind : ℕ) (e : List ℕ) → AllowsOneWriting (Starts buf kind e)
   pub append : (buf : List ℕ) (kind : ℕ) (e : List ℕ) → AllowsOneWriting (Appends buf kind e)
   pub beat : (buf : List ℕ) (form value : ℕ) → AllowsOneWriting (WritesKeepAlive buf form value)

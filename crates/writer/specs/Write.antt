@@ -1,5 +1,5 @@
 -- R24 to R27. The writer's three calls.
-use Rattle.std.specs.Prelude.{ℕ, ◌+◌, ◌≡◌, List, [], ◌∷◌, ◌++◌, Bool, cond, ◌&&◌, length, ltb, leb, eqb}
+use Rattle.std.specs.Prelude.{ℕ, ◌+◌, ◌≡◌, List, [], ◌∷◌, ◌++◌, Result, Bool, cond, ◌&&◌, length, ltb, leb, eqb}
 use Rattle.heartbeat.specs.Beat.{seconds_form, milliseconds_form, greatest_seconds}
 use Rattle.frame.specs.Limits.{greatest_size, longest_message, keep_alive}
 use Rattle.frame.specs.Header.{pdu_type, message_count}
@@ -7,9 +7,10 @@ use Rattle.frame.specs.Entry.{well_formed}
 use Rattle.frame.specs.Decide.{decide}
 use Rattle.frame.specs.declared.Decision.{Decision}
 use Rattle.frame.specs.declared.Decision.TheVariants.{Undecided, Faulty, Sound}
+use Rattle.numbers.specs.Fault.{fault_number}
+use Rattle.numbers.specs.declared.Refusal.{Refusal}
 use Rattle.numbers.specs.Refusal.{fault, not_refused, no_room, too_long, bad_entry}
 use Rattle.reader.specs.Read.{data_of}
-use Rattle.writer.specs.declared.Written.{Written}
 use Rattle.writer.specs.Numbers.{Writing, writing}
 use Rattle.layout.specs.Message.{size_of, message, at_front, beat_bytes}
 
@@ -46,7 +47,7 @@ append_sound n buf kind e =
 -- R26. Append by what the buffer's front decides; 2,049 bytes always decide, so the first case never comes.
 unfoldable pub append_by : Decision → List ℕ → ℕ → List ℕ → Writing
 append_by Undecided buf kind e = unwritten no_room buf
-append_by (Faulty f n) buf kind e = record { answer = fault ∷ f ∷ []; buffer = buf }
+append_by (Faulty f n) buf kind e = record { answer = fault ∷ fault_number f ∷ []; buffer = buf }
 append_by (Sound n) buf kind e = append_sound n buf kind e
 
 -- R26, R64. Append: 4, then 8, then 11, then 10, else the longer message.
@@ -64,13 +65,13 @@ keep_alive_of buf form value =
     (cond (beat_fits form value) (written (message keep_alive 1 (beat_bytes form value)) buf) (unwritten bad_entry buf))
 
 -- R25, R68. What start promises: answer r, and after in the buffer.
-abbrev pub Starts : List ℕ → ℕ → List ℕ → Written → List ℕ → Type 0
+abbrev pub Starts : List ℕ → ℕ → List ℕ → Result ℕ Refusal → List ℕ → Type 0
 Starts buf kind e r after = writing r after ≡ start_of buf kind e
 
 -- R26, R68. What append promises.
-abbrev pub Appends : List ℕ → ℕ → List ℕ → Written → List ℕ → Type 0
+abbrev pub Appends : List ℕ → ℕ → List ℕ → Result ℕ Refusal → List ℕ → Type 0
 Appends buf kind e r after = writing r after ≡ append_of buf kind e
 
 -- R27, R68. What keep-alive promises.
-abbrev pub WritesKeepAlive : List ℕ → ℕ → ℕ → Written → List ℕ → Type 0
+abbrev pub WritesKeepAlive : List ℕ → ℕ → ℕ → Result ℕ Refusal → List ℕ → Type 0
 WritesKeepAlive buf form value r after = writing r after ≡ keep_alive_of buf form value

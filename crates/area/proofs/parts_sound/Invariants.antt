@@ -1,9 +1,9 @@
-use Rattle.area.proofs.Sounds.{Seeing}
-use Prim.Native.Nat.{◌-◌}
+use Rattle.std.proofs.Common.{◌≡◌, ◌+◌, ◌*◌, length, drop}
+use Rattle.area.specs.Area.{parts_sound}
 use Rattle.area.proofs.parts_sound.Given as goal
 
-abbrev pub invariant-loop-n : goal.invariant-loop-n
-invariant-loop-n l = Seeing l.n l.held l.area
-
-abbrev pub decreases-loop-n : goal.decreases-loop-n
-decreases-loop-n l = 8 - l.n
+abbrev pub invariant-loop-k : goal.invariant-loop-k
+invariant-loop-k l = record {
+  same : parts_sound l.fn.held l.area ≡ parts_sound (drop l.k-index l.fn.held) l.rest;
+  left : length l.rest + l.k-index * 2049 ≡ 16392;
+}

@@ -5,12 +5,12 @@ use Rattle.lines.proofs.Putting.{puts_then}
 use Rattle.lines.proofs.Decimals.{short64}
 use Rattle.lines.proofs.put_end.Goals as goal
 
-pub returns-then-left-eq0 : goal.returns-then-left-eq0
+pub returns : goal.returns
 unfolding end_line
-returns-then-left-eq0 c =
+returns c =
     let a = c.args in
     simp (eq-eqb a.left 0 (omega arith))
     (record {
-      puts = puts_then c.put_number-a.ensures c.put_bytes.ensures;
+      puts = puts_then c.put_number-a.ensures c.put_text.ensures;
       room = omega (arith, short64 a.offset space (omega arith));
     })

@@ -8,6 +8,6 @@ pub returns : goal.returns
 returns c =
     let a = c.args in
     record {
-      puts = puts_then c.put_number-a.ensures (puts_then c.put_bytes-b.ensures c.put_number.ensures);
+      puts = puts_then c.put_number-a.ensures (puts_then c.put_text-b.ensures c.put_number.ensures);
       room = omega (arith, short64 a.offset space (omega arith), short16 a.n newline (omega arith));
     }

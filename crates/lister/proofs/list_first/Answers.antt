@@ -1,41 +1,18 @@
-use mathlib.Core.Path.{◌≡◌}
-use Rattle.reader.specs.Numbers.{reading_numbers}
-use Rattle.reader.specs.Read.{read_of}
-use Rattle.reader.specs.declared.Reading.TheVariants.{Read, Fault, Short}
-use native.Mathlib.Omega.{arith}
+use Rattle.std.proofs.Common.{arith}
 use Rattle.lister.proofs.Readings.{read_size}
-use Rattle.lister.proofs.Walks.{first_listed, first_fault, first_short}
+use Rattle.lister.proofs.Walks.{first_listed, first_refused}
 use Rattle.lister.proofs.list_first.Goals as goal
 
-pub overflow_sub-n : goal.overflow_sub-n
-overflow_sub-n c =
-    let a = c.args in
-    let s = a.s.now in
-    let m = c.in-Read.m in
-    let n = c.in-Read.n in
-    let q : reading_numbers (Read m n) ≡ read_of s = cc in
-    omega (arith, (read_size s m n q).0)
+pub overflow_sub-size : goal.overflow_sub-size
+overflow_sub-size c = let r = c.in-Ok in omega (arith, (read_size c.args.s.now r.field-0.message r.field-0.length r.ensures).0)
 
-pub returns-in-Read : goal.returns-in-Read
-returns-in-Read c =
+pub returns-in-Ok : goal.returns-in-Ok
+returns-in-Ok c =
     let a = c.args in
-    let s = a.s.now in
-    let m = c.in-Read.m in
-    let n = c.in-Read.n in
-    let q : reading_numbers (Read m n) ≡ read_of s = cc in
-    first_listed s a.offset a.out.now a.at m n q c.kind_of.ensures c.count_of.ensures c.put_message.ensures
+    let r = c.in-Ok in
+    first_listed a.s.now a.offset a.out.now a.at r.field-0.message r.field-0.length r.ensures c.kind.ensures c.count.ensures c.put_message.ensures
 
-pub returns-in-Fault : goal.returns-in-Fault
-returns-in-Fault c =
+pub returns-in-Err : goal.returns-in-Err
+returns-in-Err c =
     let a = c.args in
-    let s = a.s.now in
-    let f = c.in-Fault.f in
-    let q : reading_numbers (Fault f) ≡ read_of s = cc in
-    first_fault s a.offset a.out.now a.at f q
-
-pub returns-in-Short : goal.returns-in-Short
-returns-in-Short c =
-    let a = c.args in
-    let s = a.s.now in
-    let q : reading_numbers Short ≡ read_of s = cc in
-    first_short s a.offset a.out.now a.at q
+    rw c.fault_of.ensures (first_refused a.s.now a.offset a.out.now a.at c.in-Err.refusal c.in-Err.ensures)

@@ -1,8 +1,16 @@
-use Rattle.serve.proofs.Replies.{commands_end}
+use Rattle.std.proofs.Common.{◌≢◌, arith, refl, sym, ◌∙◌}
+use Rattle.serve.proofs.Replies.{commands_silent, commands_replied, front_none}
 use Rattle.serve.proofs.commands.Goals as goal
 
-pub returns : goal.returns
-returns c =
+pub returns-in-0 : goal.returns-in-0
+returns-in-0 c =
     let a = c.args in
-    let s = c.serve-end in
-    commands_end a.device.now a.n a.kind a.count a.body.now s.ensures.0 a.out.now c.requires.4 c.requires.3 s.ensures.1 s.ensures.2 c.speak.ensures c.reply.ensures.0 c.reply.ensures.1
+    let s = c.serve-end.ensures in
+    rw (commands_silent a.device.now a.n a.kind a.count a.body.now c.in-0.is) (s.0, refl, (rw c.in-0.is at s.2) ∙ sym (front_none a.out.now))
+
+pub returns-in_default : goal.returns-in_default
+returns-in_default c =
+    let a = c.args in
+    let s = c.serve-end.ensures in
+    let k : a.kind ≢ 0 = omega arith in
+    commands_replied a.device.now a.n a.kind a.count a.body.now k a.out.now c.requires.4 c.requires.3 s.0 s.1 s.2 c.sent.ensures c.put_head.ensures

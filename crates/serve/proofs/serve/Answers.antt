@@ -6,8 +6,9 @@ use Rattle.fields.specs.Place.{parameters_of}
 use Rattle.fields.specs.Fields.{command_of}
 use Rattle.fields.specs.declared.CommandFields.{CommandFields}
 use Rattle.device.specs.Run.{unchanged}
-use Rattle.serve.specs.Serve.{ran_first}
-use Rattle.serve.proofs.Serves.{size_given, serving_step, answer_fits}
+use Rattle.objects.specs.Answers.{answer_in}
+use Rattle.serve.specs.Serve.{ran_with, ran_first}
+use Rattle.serve.proofs.Serves.{size_given, serving_step}
 use Rattle.serve.proofs.serve.Goals as goal
 use Rattle.serve.proofs.serve.Goals.{After-given_size-size, After-run-answer}
 
@@ -31,9 +32,9 @@ slice_bounds-e-end c = sym (sized (goal.at.slice_bounds-e-end c).After-given_siz
 pub command_of-c-requires : goal.command_of-c-requires
 command_of-c-requires c = let f = sized (goal.at.command_of-c-requires c).After-given_size-size in omega (arith, f.1, f.3)
 
-pub parameters-part-requires : goal.parameters-part-requires
-parameters-part-requires c =
-    let f = sized (goal.at.parameters-part-requires c).After-given_size-size in
+pub parameters-requires : goal.parameters-requires
+parameters-requires c =
+    let f = sized (goal.at.parameters-requires c).After-given_size-size in
     let o : (e : List ℕ) → parameter_offset c.args.kind e ≡ least_entry c.args.kind = λ e. offset_other c.args.kind e (λ z. omega arith) in
     rw o (omega (arith, f.1, f.3, least_command_lem c.args.kind (omega arith)))
 
@@ -47,21 +48,14 @@ fields : (c : After-run-answer) → c.command_of-c.result ≡ command_of (take (
 fields c = let s = size_is c in cc
 
 -- that is the first entry's command
-first : (c : After-run-answer) → unchanged c.run-answer.new.device c.run-answer.result ≡ ran_first c.loop-left.device c.args.n c.args.kind c.loop-left.t.now
-unfolding ran_first
+first : (c : After-run-answer) → unchanged c.run-answer.new.device (answer_in c.run-answer.result) ≡ ran_first c.loop-left.device c.args.n c.args.kind c.loop-left.t.now
+unfolding ran_first ran_with
 first c =
     let l = c.loop-left in
     let s = size_is c in
     let f = fields c in
-    let p : c.parameters-part.result.now ≡ parameters_of c.args.kind (take (entry_size c.args.kind l.t.now) l.t.now) = cc in
+    let p : c.parameters.result.now ≡ parameters_of c.args.kind (take (entry_size c.args.kind l.t.now) l.t.now) = cc in
     cc
-
-pub answer_to-at-requires : goal.answer_to-at-requires
-answer_to-at-requires c =
-    let l = c.loop-left in
-    let a = c.args in
-    let j = (goal.at.answer_to-at-requires c).After-run-answer in
-    (answer_fits _ _ a.n a.kind l.t.now c.run-answer.result (first j), omega (arith, l.invariant.room))
 
 pub slice_bounds-t-count : goal.slice_bounds-t-count
 slice_bounds-t-count c = (sized (goal.at.slice_bounds-t-count c).After-given_size-size).2

@@ -1,10 +1,11 @@
+use Rattle.std.proofs.Common.{◌≡◌, ◌<◌, ◌≤◌, ℕ, length, get_or}
 use Rattle.subscription.specs.State.{marked_of}
-use Rattle.laws.proofs.Loops.{Mapping}
-use Prim.Native.Nat.{◌-◌}
+use Rattle.subscription.specs.declared.Subscription.{Subscription}
 use Rattle.subscription.proofs.all_marked.Given as goal
 
-abbrev pub invariant-loop-i : goal.invariant-loop-i
-invariant-loop-i l = Mapping (marked_of l.emitter) 32 l.i l.initial.entries l.entries
-
-abbrev pub decreases-loop-i : goal.decreases-loop-i
-decreases-loop-i l = 32 - l.i
+abbrev pub invariant-loop-s : goal.invariant-loop-s
+invariant-loop-s l = record {
+  long : length l.s-items ≡ length l.fn.entries;
+  left : (k : ℕ) (d : Subscription) → l.s-index ≤ k → get_or l.s-items k d ≡ get_or l.fn.entries k d;
+  done : (k : ℕ) (d : Subscription) → k < l.s-index → get_or l.s-items k d ≡ marked_of l.fn.emitter (get_or l.fn.entries k d);
+}
