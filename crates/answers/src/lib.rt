@@ -150,15 +150,11 @@ impl Told for Resetting {
 }
 
 // A fault's number stands behind that of the refusal.
-#[tactic(auto, unfolding(crate::specs::Numbers::numbers_of))]
 fn refused(refusal: Refusal) -> Numbers
     ensures { result ≡ numbers_of (refusal_numbers refusal) }
 {
     let number = refusal.number();
-    let first = match refusal {
-        Refusal::Fault(fault) => fault.number(),
-        _ => 0,
-    };
+    let first = refusal.fault().map_or(0, Fault::number);
     Numbers {
         number,
         first,

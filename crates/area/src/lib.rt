@@ -41,13 +41,10 @@ fn parts_sound(area: &[u8], held: [u16; 8]) -> bool
     requires { length area.now ≡ area_bytes }
     ensures { result ≡ parts_sound held area.now }
 {
-    let mut rest = area;
-    for &k in &held {
-        let (part, behind) = rest.split_at(PART);
+    for (part, &k) in area.chunks_exact(PART).zip(&held) {
         if !part_sound(part, k) {
             return false;
         }
-        rest = behind;
     }
     true
 }

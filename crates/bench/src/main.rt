@@ -3,7 +3,7 @@
 
 use answers::Delivery;
 use endpoint::Record;
-use numbers::{Fault, Refusal};
+use numbers::Fault;
 use std::fmt::Display;
 use std::io::Write;
 
@@ -41,10 +41,7 @@ fn length_read(s: &[u8]) -> Option<usize> {
 }
 
 fn fault_read(s: &[u8]) -> Option<Fault> {
-    match reader::read_message(s) {
-        Err(Refusal::Fault(fault)) => Some(fault),
-        _ => None,
-    }
+    reader::read_message(s).err()?.fault()
 }
 
 // One command of 2,039 bytes, which makes pduSize 2,048.

@@ -4,6 +4,7 @@ use mir.Val.{bool_byte}
 use Rattle.std.specs.Result.{IsErrAnd}
 use Rattle.numbers.specs.Status.{status_number}
 use Rattle.numbers.specs.declared.Status.{Status}
+use Rattle.numbers.proofs.Tables.{failed_by}
 use Rattle.objects.specs.declared.Method.{Method}
 use Rattle.objects.specs.declared.Reply.{Reply}
 use Rattle.objects.specs.Methods.{method_of, is_mute, is_telling, class_method, lockable_method, lock_method, unlock_method, get_method, set_method, add_method, remove_method, reset_key_method, place_of}
@@ -94,9 +95,9 @@ pub err_answer : (r : Result Reply Status) (s : Status) → IsErrAnd r (λ e. e 
 err_answer (Ok x) s i = absurd i
 err_answer (Err y) s i = rw i
 
-pub ran_stopped : (t m count : ℕ) (part : List ℕ) (d : Device) (n : ℕ) (s : Status) → status_number s ≡ first_status t m count part → (status_number s ≡ 0 → ⊥)
+pub ran_stopped : (t m count : ℕ) (part : List ℕ) (d : Device) (n : ℕ) (s : Status) → status_number s ≡ first_status t m count part
     → (r : Result Reply Status) → IsErrAnd r (λ e. e ≡ s) → unchanged d (answer_in r) ≡ run_of d n t m count part
-ran_stopped t m count part d n s e z r i = run_stopped d n t m count part m refl (status_number s) e z (answer_in r) (err_answer r s i)
+ran_stopped t m count part d n s e r i = run_stopped d n t m count part m refl (status_number s) e (failed_by s) (answer_in r) (err_answer r s i)
 
 module _ (t m count : ℕ) (part : List ℕ) (z : first_status t m count part ≡ 0) where
   pub mute_asked : Muting m → is_mute t ≡ true

@@ -1,8 +1,8 @@
 -- What a command of the channels is in a whole device, for the contracts of its methods: no rule is here.
-use Rattle.std.specs.Prelude.{ℕ, ◌≡◌, Bool, cond, false, List, [], map, Result, Ok, Err, IfErr, ◌≢◌}
+use Rattle.std.specs.Prelude.{ℕ, ◌≡◌, Bool, cond, false, List, [], map, Result, Ok, Err}
 use Rattle.subscription.specs.State.{marked_of}
 use Rattle.subscription.specs.declared.Subscription.{Subscription}
-use Rattle.numbers.specs.Status.{status_number, carried_out}
+use Rattle.numbers.specs.Status.{status_number}
 use Rattle.numbers.specs.declared.Status.{Status}
 use Rattle.objects.specs.Answers.{Carried, answer_with, failed_of}
 use Rattle.device.specs.Setters.{with_subscriptions, with_mutes, with_holders}
@@ -24,10 +24,6 @@ channels mutes holders = record { mutes = mutes; holders = holders }
 -- What a command of the channels did.
 abbrev pub acted : Channels → Carried → Bool → Acted
 acted c answer changed = record { channels = c; answer = answer; changed = changed }
-
--- A status that is handed up is not 0.
-abbrev pub NeverZero : {A : Type 0} → Result A Status → Type 0
-NeverZero r = IfErr r (λ s. status_number s ≢ carried_out)
 
 -- Whether a set changed a mute.
 abbrev pub is_changed : Result Bool Status → Bool

@@ -3,7 +3,7 @@
 ghost use Rattle.std.specs.Prelude.{false, [], ◌∷◌, ◌+◌, ◌<◌, List, ℕ};
 ghost use Rattle.objects.specs.Methods.{first_mute, get_method, lock_method, unlock_method, set_method};
 ghost use Rattle.objects.specs.Answers.{answer_in, answer_with, carried_bytes};
-ghost use Rattle.command.specs.Acting.{channels, acted, is_changed, change_answer, NeverZero, Acts};
+ghost use Rattle.command.specs.Acting.{channels, acted, is_changed, change_answer, Acts};
 
 use numbers::Status;
 use objects::Reply;
@@ -29,8 +29,7 @@ impl Channels {
     /// The mute at a place is locked for connection `n`: status 3 where another holds it.
     pub fn lock(mut self, n: u8, at: usize) -> (Channels, Result<Reply, Status>)
         requires { at < 8 }
-        ensures acts { Acts self n (first_mute + at) lock_method 0 [] (acted result.0 (answer_in result.1) false) }
-        ensures refused { NeverZero result.1 }
+        ensures { Acts self n (first_mute + at) lock_method 0 [] (acted result.0 (answer_in result.1) false) }
     {
         let answer = lock(&mut self.holders, n, at);
         (self, answer)
@@ -39,8 +38,7 @@ impl Channels {
     /// Connection `n` lets the lock go: status 3 where another holds it, 9 where nobody does.
     pub fn unlock(mut self, n: u8, at: usize) -> (Channels, Result<Reply, Status>)
         requires { at < 8 }
-        ensures acts { Acts self n (first_mute + at) unlock_method 0 [] (acted result.0 (answer_in result.1) false) }
-        ensures refused { NeverZero result.1 }
+        ensures { Acts self n (first_mute + at) unlock_method 0 [] (acted result.0 (answer_in result.1) false) }
     {
         let answer = unlock(&mut self.holders, n, at);
         (self, answer)
@@ -50,9 +48,8 @@ impl Channels {
     /// whether the value is another than before: then the mute's subscriptions are to be marked.
     pub fn set(mut self, n: u8, at: usize, v: u8) -> (Channels, Result<bool, Status>)
         requires { at < 8 }
-        ensures acts { Acts self n (first_mute + at) set_method 1 (v ∷ [])
+        ensures { Acts self n (first_mute + at) set_method 1 (v ∷ [])
             (acted result.0 (change_answer result.1) (is_changed result.1)) }
-        ensures refused { NeverZero result.1 }
     {
         let answer = set(&mut self.mutes, &self.holders, n, at, v);
         (self, answer)
@@ -62,9 +59,8 @@ impl Channels {
 #[tactic(auto, using(crate::proofs::Acts::lock_refused, crate::proofs::Acts::locked))]
 pub(crate) fn lock(holders: &mut [u8; 8], n: u8, at: usize) -> Result<Reply, Status>
     requires { at < 8 }
-    ensures acts { (mutes : List ℕ) → Acts (channels mutes holders.old) n (first_mute + at) lock_method 0 []
+    ensures { (mutes : List ℕ) → Acts (channels mutes holders.old) n (first_mute + at) lock_method 0 []
         (acted (channels mutes holders.new) (answer_in result) false) }
-    ensures refused { NeverZero result }
 {
     if holders::is_other(holders[at], n) {
         return Err(Status::HeldByOther);
@@ -76,9 +72,8 @@ pub(crate) fn lock(holders: &mut [u8; 8], n: u8, at: usize) -> Result<Reply, Sta
 #[tactic(auto, using(crate::proofs::Acts::unlock_refused, crate::proofs::Acts::unlock_early, crate::proofs::Acts::unlocked))]
 pub(crate) fn unlock(holders: &mut [u8; 8], n: u8, at: usize) -> Result<Reply, Status>
     requires { at < 8 }
-    ensures acts { (mutes : List ℕ) → Acts (channels mutes holders.old) n (first_mute + at) unlock_method 0 []
+    ensures { (mutes : List ℕ) → Acts (channels mutes holders.old) n (first_mute + at) unlock_method 0 []
         (acted (channels mutes holders.new) (answer_in result) false) }
-    ensures refused { NeverZero result }
 {
     if holders::is_other(holders[at], n) {
         return Err(Status::HeldByOther);
@@ -100,9 +95,8 @@ pub(crate) fn set(
     v: u8,
 ) -> Result<bool, Status>
     requires { at < 8 }
-    ensures acts { Acts (channels mutes.old holders.now) n (first_mute + at) set_method 1 (v ∷ [])
+    ensures { Acts (channels mutes.old holders.now) n (first_mute + at) set_method 1 (v ∷ [])
         (acted (channels mutes.new holders.now) (change_answer result) (is_changed result)) }
-    ensures refused { NeverZero result }
 {
     if holders::is_other(holders[at], n) {
         return Err(Status::HeldByOther);

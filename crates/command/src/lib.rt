@@ -6,7 +6,6 @@ ghost use Rattle.objects.specs.Methods.{device_manager, method_number, reset_key
 ghost use Rattle.objects.specs.Tests.{is_malformed};
 ghost use Rattle.objects.specs.Answers.{answer_in};
 ghost use Rattle.device.specs.Run.{unchanged, run_of};
-ghost use Rattle.command.specs.Acting.{NeverZero};
 ghost use Rattle.command.specs.Booking.{armed, Arms};
 
 use device::Device;
@@ -22,8 +21,7 @@ pub mod slot;
 #[tactic(auto, using(device::proofs::Shapes::arm_fits, crate::proofs::Books::arm_untaken, crate::proofs::Books::arm_taken))]
 fn arm(mechanism: &mut Mechanism, part: &[u8]) -> Result<Reply, Status>
     requires { is_malformed reset_key_method 2 part.now ≡ false }
-    ensures arms { Arms mechanism.old device_manager 2 part.now (armed mechanism.new (answer_in result)) }
-    ensures refused { NeverZero result }
+    ensures { Arms mechanism.old device_manager 2 part.now (armed mechanism.new (answer_in result)) }
 {
     *mechanism = mechanism::arming_of(part).ok_or(Status::BadValue)?;
     Ok(Reply::Done)
@@ -32,9 +30,8 @@ fn arm(mechanism: &mut Mechanism, part: &[u8]) -> Result<Reply, Status>
 /// The command of these fields from connection `n`; `part` is the message from the entry's parameters on. A command that is
 /// refused changes nothing, and its status is the first that applies.
 pub fn run(device: &mut Device, n: u8, c: CommandFields, part: &[u8]) -> Result<Reply, Status>
-    ensures runs { unchanged device.new (answer_in result)
+    ensures { unchanged device.new (answer_in result)
         ≡ run_of device.old n c.target (method_number c.method.level c.method.index) c.count part.now }
-    ensures refused { NeverZero result }
 {
     match objects::first_status(c.target, c.method.level, c.method.index, c.count, part)? {
         Method::Class => Ok(Reply::Class(Class::of(c.target))),

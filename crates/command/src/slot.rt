@@ -5,7 +5,6 @@ ghost use Rattle.subscription.specs.State.{is_twin, is_unused};
 ghost use Rattle.objects.specs.Methods.{add_method, remove_method};
 ghost use Rattle.objects.specs.Tests.{is_malformed};
 ghost use Rattle.objects.specs.Answers.{answer_in};
-ghost use Rattle.command.specs.Acting.{NeverZero};
 ghost use Rattle.command.specs.Booking.{slot_for, slot_found, Stores};
 
 use numbers::Status;
@@ -22,8 +21,7 @@ impl Subscriptions {
     /// Connection `n` adds the subscription of these arguments: status 6, 7, 9 or 10, in this order.
     pub fn subscribe(mut self, n: u8, part: &[u8]) -> (Subscriptions, Result<Reply, Status>)
         requires { is_malformed add_method 5 part.now ≡ false }
-        ensures stores { Stores self.entries result.0.entries n add_method 5 part.now (answer_in result.1) }
-        ensures refused { NeverZero result.1 }
+        ensures { Stores self.entries result.0.entries n add_method 5 part.now (answer_in result.1) }
     {
         let answer = subscribe(&mut self.entries, n, part);
         (self, answer)
@@ -32,8 +30,7 @@ impl Subscriptions {
     /// Connection `n` removes the subscription of these arguments: status 6 or 9, in this order.
     pub fn unsubscribe(mut self, n: u8, part: &[u8]) -> (Subscriptions, Result<Reply, Status>)
         requires { is_malformed remove_method 2 part.now ≡ false }
-        ensures stores { Stores self.entries result.0.entries n remove_method 2 part.now (answer_in result.1) }
-        ensures refused { NeverZero result.1 }
+        ensures { Stores self.entries result.0.entries n remove_method 2 part.now (answer_in result.1) }
     {
         let answer = unsubscribe(&mut self.entries, n, part);
         (self, answer)
@@ -71,8 +68,7 @@ pub(crate) fn subscribe(
     part: &[u8],
 ) -> Result<Reply, Status>
     requires { is_malformed add_method 5 part.now ≡ false }
-    ensures stores { Stores entries.old entries.new n add_method 5 part.now (answer_in result) }
-    ensures refused { NeverZero result }
+    ensures { Stores entries.old entries.new n add_method 5 part.now (answer_in result) }
 {
     if subscription::is_strange(part) {
         return Err(Status::StrangeEmitter);
@@ -96,8 +92,7 @@ pub(crate) fn unsubscribe(
     part: &[u8],
 ) -> Result<Reply, Status>
     requires { is_malformed remove_method 2 part.now ≡ false }
-    ensures stores { Stores entries.old entries.new n remove_method 2 part.now (answer_in result) }
-    ensures refused { NeverZero result }
+    ensures { Stores entries.old entries.new n remove_method 2 part.now (answer_in result) }
 {
     if subscription::is_strange(part) {
         return Err(Status::StrangeEmitter);

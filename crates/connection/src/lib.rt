@@ -247,21 +247,14 @@ pub fn all_obey(connections: &[Connection; 8]) -> bool
 }
 
 /// Bit n is set where a tick of `step` milliseconds closes connection n.
-#[tactic(auto, using(laws::proofs::Loops::masking_none, laws::proofs::Loops::masking_set, laws::proofs::Loops::masking_clear, laws::proofs::Loops::masking_low, laws::proofs::Loops::masking_all, crate::proofs::Times::obeys_before))]
+#[tactic(auto, using(laws::proofs::Loops::masking_none, laws::proofs::Loops::masking_more, laws::proofs::Loops::masking_low, laws::proofs::Loops::masking_all, laws::proofs::Loops::all_last_of))]
 pub fn closing(connections: &[Connection; 8], step: u32) -> u8
     requires { (all connection_obeys connections.now ≡ true) × (step < 2 ^ 31) }
     ensures { result ≡ mask (closes_at step) connections.now }
 {
-    let mut m: u8 = 0;
-    let mut i: usize = CONNECTIONS;
-    while 0 < i {
-        i -= 1;
-        let c = connections[i];
-        if c.closes(step) {
-            m = m * 2 + 1;
-        } else {
-            m = m * 2;
-        }
+    let mut m = 0;
+    for c in connections.iter().rev() {
+        m = m * 2 + u8::from(c.closes(step));
     }
     m
 }

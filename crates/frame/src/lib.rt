@@ -1,7 +1,7 @@
 //! The limits, the header, the deciding byte and the walk over a message's entries.
 #![tactic(auto)]
 
-ghost use Rattle.std.specs.Prelude.{◌≡◌, false, cond, ◌+◌, ◌-◌, ◌^◌, ◌<◌, ◌≤◌, length, Some, None};
+ghost use Rattle.std.specs.Prelude.{◌≡◌, false, cond, ◌+◌, ◌-◌, ◌^◌, ◌<◌, ◌≤◌, length, Some, None, IfSome};
 ghost use Rattle.octets.specs.Numbers.{be32_at};
 ghost use Rattle.frame.specs.Header.{count_fault, fields_fault, header_fault};
 ghost use Rattle.frame.specs.Entry.{least_entry, context_count, parameter_offset, is_context_bad};
@@ -12,7 +12,7 @@ ghost use Rattle.frame.specs.Decide.{keep_alive_fill, data_sound, decide_data, d
 ghost use Rattle.frame.specs.Deciding.{Deciding};
 ghost use Rattle.frame.specs.declared.Decision.TheVariants.{Sound, Faulty};
 ghost use Rattle.numbers.specs.declared.Fault.TheVariants as fault;
-ghost use Rattle.frame.specs.Scaffold.{nonzero, walked, rest_from, has_header, Finds};
+ghost use Rattle.frame.specs.Scaffold.{nonzero, walked, rest_from, rest_by, has_header, Finds};
 
 use numbers::Fault;
 
@@ -52,9 +52,6 @@ pub const GREATEST_CONTEXT: usize = 64;
 pub const SECONDS_BYTES: usize = 2;
 
 pub const MILLISECONDS_BYTES: usize = 4;
-
-// No message has an entry of this number: its messageCount is at most that.
-const NO_ENTRY: usize = 65535;
 
 /// What the bytes so far decide, with how many of them that takes.
 #[derive(Clone, Copy, Debug, PartialEq, Eq)]
@@ -330,29 +327,33 @@ fn unfound(decision: Decision) -> Found
     }
 }
 
-// m is a whole message with a sound header.
-fn decide_data(m: &[u8], index: usize) -> Found
+// m is a whole message with a sound header; an entry is looked for only where one is wanted.
+fn decide_data(m: &[u8], wanted: Option<usize>) -> Found
     requires { 10 ≤ length m.now }
-    ensures { Finds (decide_data m.now) m.now index result }
+    ensures decided { result.decision ≡ decide_data m.now }
+    ensures found { IfSome wanted (λ i. result.rest ≡ nonzero (rest_by (decide_data m.now) m.now i)) }
 {
     let kind = m[places::TYPE];
     let count = octets::be16(m, places::MESSAGE_COUNT);
     let body = &m[HEADER_END..];
-    if kind != KEEP_ALIVE && index < count as usize {
-        let rest = entries_found(body, kind, count, index as u16);
-        return Found {
-            decision: decide_last(rest.is_some(), m.len()),
-            rest,
-        };
+    if let Some(index) = wanted {
+        if kind != KEEP_ALIVE && index < count as usize {
+            let rest = entries_found(body, kind, count, index as u16);
+            return Found {
+                decision: decide_last(rest.is_some(), m.len()),
+                rest,
+            };
+        }
     }
     unfound(decide_last(data_sound(kind, count, body), m.len()))
 }
 
 // s has a whole header.
 #[tactic(auto, using(crate::proofs::Headers::sound_header, crate::proofs::Walks::rest_front), unfolding(crate::specs::Scaffold::rest_by, crate::specs::Decide::decide_header))]
-fn decide_header(s: &[u8], index: usize) -> Found
+fn decide_header(s: &[u8], wanted: Option<usize>) -> Found
     requires { 10 ≤ length s.now }
-    ensures { Finds (decide_header (header_fault s.now) s.now) s.now index result }
+    ensures decided { result.decision ≡ decide_header (header_fault s.now) s.now }
+    ensures found { IfSome wanted (λ i. result.rest ≡ nonzero (rest_by (decide_header (header_fault s.now) s.now) s.now i)) }
 {
     if let Some(fault) = header_fault(s) {
         return unfound(Decision::Faulty(fault, HEADER_END));
@@ -361,7 +362,7 @@ fn decide_header(s: &[u8], index: usize) -> Found
     if s.len() < n {
         return unfound(Decision::Undecided);
     }
-    decide_data(&s[..n], index)
+    decide_data(&s[..n], wanted)
 }
 
 // A header stands at the front of s.
@@ -390,7 +391,7 @@ pub fn decide(s: &[u8]) -> Decision
     ensures { result ≡ decide s.now }
 {
     if has_header(s) {
-        return decide_header(s, NO_ENTRY).decision;
+        return decide_header(s, None).decision;
     }
     decide_start(s)
 }
@@ -401,7 +402,7 @@ pub fn find(s: &[u8], index: usize) -> Found
     ensures { Finds (decide s.now) s.now index result }
 {
     if has_header(s) {
-        return decide_header(s, index);
+        return decide_header(s, Some(index));
     }
     unfound(decide_start(s))
 }

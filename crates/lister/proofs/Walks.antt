@@ -5,7 +5,7 @@ use mathlib.Core.List.{List, [], ◌∷◌, ◌++◌, append_assoc, append-nil}
 use native.Mathlib.Omega.{arith}
 use native.Mathlib.Nat.{add-zero, add_assoc}
 use lib.ListN.{length, get_or, take, drop, length-drop}
-use lib.Seq.{sets, length-take-le, drop-drop}
+use lib.Seq.{length-take-le, drop-drop}
 use Rattle.frame.specs.Decide.{decide}
 use Rattle.frame.specs.declared.Decision.{Decision}
 use Rattle.frame.specs.declared.Decision.TheVariants.{Undecided, Faulty, Sound}
@@ -24,7 +24,6 @@ use Rattle.split.specs.Split.{sound_messages}
 use Rattle.split.proofs.Splits.{sound_none_lem, sound_then_lem}
 use Rattle.lister.specs.Listing.{bytes_of, line_of, lines_of, listed_bytes, unlisted}
 use Rattle.lister.specs.Scaffold.{sound_first, first_of, fault_of, fault_by, Lists}
-use Rattle.lister.specs.declared.Listed.{Listed}
 use Rattle.lister.proofs.Readings.{read_sound, read_told, read_size, read_refused}
 
 -- no sound message stands at the front of s
@@ -69,42 +68,31 @@ unfolding bytes_of lines_of
 walked_none s offset out =
     record { done = []; left = refl; bytes = refl; within = omega arith; puts = puts_none out 0; room = omega arith }
 
--- what the first message is, by its bytes
-first_sound : (s : List ℕ) (d : Decision) → decide s ≡ d → (bytes_of (sound_first d s) ≡ 0 → ⊥) → (n : ℕ) × (decide s ≡ Sound n)
-unfolding sound_first bytes_of
-first_sound s Undecided e h = absurd (h refl)
-first_sound s (Faulty f n) e h = absurd (h refl)
-first_sound s (Sound n) e h = (n, e)
-
-pub first_unsound : (s : List ℕ) → bytes_of (first_of s) ≡ 0 → Unsound s
-unfolding first_of sound_first bytes_of
+pub first_unsound : (s : List ℕ) → first_of s ≡ [] → Unsound s
+unfolding first_of sound_first
 first_unsound s h n e =
-    let w = sound_at s n e in
-    let q : length (take n s) + 0 ≡ 0 = rw e at h in
-    omega (arith, w.low, length-take-le n s w.high)
+    let q : take n s ∷ [] ≡ [] = rw e at h in
+    omega (arith, ap length q)
 
-module _ {s before out out' rest : List ℕ} {offset used put : ℕ} {r : Listed} (w : Walked s offset before used put out)
-    (e : rest ≡ drop used s) (l : Lists (first_of rest) rest (offset + used) out put out' r) where
-  pub walked_more : (r.used ≡ 0 → ⊥) → Walked s offset before (used + r.used) r.put out'
-  unfolding first_of sound_first bytes_of
-  walked_more h =
-      let p = first_sound rest (decide rest) refl (λ z. h (l.used ∙ z)) in
-      let n = p.0 in
-      let x = sound_at rest n p.1 in
-      let f : first_of rest ≡ take n rest ∷ [] = ap (λ (d : Decision). sound_first d rest) p.1 in
-      let b : r.used ≡ n = l.used ∙ ap bytes_of f ∙ add-zero (length (take n rest)) ∙ length-take-le n rest x.high in
-      let behind : drop n rest ≡ drop (used + r.used) s = ap (drop n) e ∙ drop-drop n used s ∙ ap (λ (k : ℕ). drop (used + k) s) (sym b) in
-      let t : sound_messages (drop used s) ≡ first_of rest ++ sound_messages (drop (used + r.used) s) =
-      ap sound_messages (sym e) ∙ sound_then_lem rest n p.1
-      ∙ ap (λ (ms : List (List ℕ)). take n rest ∷ ms) (ap sound_messages behind)
-      ∙ ap (λ (ms : List (List ℕ)). ms ++ sound_messages (drop (used + r.used) s)) (sym f) in
+module _ {s before out out' rest : List ℕ} {offset used put n next : ℕ} (w : Walked s offset before used put out)
+    (e : rest ≡ drop used s) (d : decide rest ≡ Sound n) (l : PutsLine (line_of (offset + used) (take n rest)) out put out' next) where
+  pub walked_more : Walked s offset before (used + n) next out'
+  unfolding bytes_of lines_of
+  walked_more =
+      let x = sound_at rest n d in
+      let m = take n rest in
+      let b : bytes_of (m ∷ []) ≡ n = add-zero (length m) ∙ length-take-le n rest x.high in
+      let behind : drop n rest ≡ drop (used + n) s = ap (drop n) e ∙ drop-drop n used s in
+      let t : sound_messages (drop used s) ≡ m ∷ sound_messages (drop (used + n) s) =
+      ap sound_messages (sym e) ∙ sound_then_lem rest n d
+      ∙ ap (λ (ms : List (List ℕ)). m ∷ ms) (ap sound_messages behind) in
       record {
-        done = w.done ++ first_of rest;
-        left = w.left ∙ ap (λ (ms : List (List ℕ)). w.done ++ ms) t ∙ sym (append_assoc w.done (first_of rest) (sound_messages (drop (used + r.used) s)));
-        bytes = omega (arith, bytes_append w.done (first_of rest), w.bytes, l.used);
-        within = omega (arith, l.within, ap length e, length-drop used s, w.within);
-        puts = rw (lines_append offset w.done (first_of rest)) (puts_then w.puts (rw w.bytes at l.puts));
-        room = omega (arith, l.room, w.room);
+        done = w.done ++ (m ∷ []);
+        left = w.left ∙ ap (λ (ms : List (List ℕ)). w.done ++ ms) t ∙ sym (append_assoc w.done (m ∷ []) (sound_messages (drop (used + n) s)));
+        bytes = omega (arith, bytes_append w.done (m ∷ []), w.bytes, b);
+        within = omega (arith, x.high, ap length e, length-drop used s, w.within);
+        puts = rw (lines_append offset w.done (m ∷ []), append-nil (line_of (offset + bytes_of w.done) m)) (puts_then w.puts (rw w.bytes at l.puts));
+        room = omega (arith, l.room, x.low, w.room);
       }
 
 -- nothing sound is left, and what is left has the fault f
@@ -124,46 +112,27 @@ walked_all {s} {before} {out} {offset} {used} {put} {f} w u g =
     )
 
 -- the walk stops where the first message left is not sound
-pub walked_stop : {s before out out' rest : List ℕ} {offset used put : ℕ} {r : Listed} → Walked s offset before used put out
-    → rest ≡ drop used s → Lists (first_of rest) rest (offset + used) out put out' r → r.used ≡ 0 → r.fault ≡ fault_by (decide rest)
-    → Lists (sound_messages s) s offset before 0 out' (record { used = used; put = put; fault = r.fault }) × (r.fault ≡ fault_by (decide (unlisted s)))
-unfolding lines_of first_of
-walked_stop {s} {before} {out} {out'} {rest} {offset} {used} {put} {r} w e l z g =
-    let u = first_unsound rest (sym l.used ∙ z) in
-    let o : out' ≡ out = l.puts.text ∙ ap (λ (ms : List (List ℕ)). sets out put (lines_of (offset + used) ms)) (first_none (decide rest) rest u) in
-    rw o (walked_all w (rw e at u) (rw e at g))
+pub walked_stop : {s before out out' rest : List ℕ} {offset used put : ℕ} {f : Option Fault} → Walked s offset before used put out
+    → rest ≡ drop used s → first_of rest ≡ [] → f ≡ fault_by (decide rest) → out' ≡ out
+    → Lists (sound_messages s) s offset before 0 out' (record { used = used; put = put; fault = f }) × (f ≡ fault_by (decide (unlisted s)))
+walked_stop {s} {before} {out} {out'} {rest} {offset} {used} {put} {f} w e u g o =
+    rw o (walked_all w (rw e at (first_unsound rest u)) (rw e at g))
 
-module _ (s : List ℕ) (offset : ℕ) (out : List ℕ) (at : ℕ) where
-  first_not : {f : Option Fault} → Unsound s → Lists (first_of s) s offset out at out (record { used = 0; put = at; fault = f })
-  unfolding first_of bytes_of lines_of
-  first_not u =
-      rw (first_none (decide s) s u)
-      (record { used = refl; within = omega arith; puts = puts_none out at; room = omega arith })
-
-  pub first_refused : (r : Refusal) → reading_numbers (Err r) ≡ read_of s
-      → Lists (first_of s) s offset out at out (record { used = 0; put = at; fault = fault_of r }) × (fault_of r ≡ fault_by (decide s))
-  first_refused r e = let w = read_refused s r e in (first_not w.0, w.1)
+module _ (s : List ℕ) where
+  pub first_refused : (r : Refusal) → reading_numbers (Err r) ≡ read_of s → (first_of s ≡ []) × (fault_of r ≡ fault_by (decide s))
+  unfolding first_of
+  first_refused r e = let w = read_refused s r e in (first_none (decide s) s w.0, w.1)
 
   -- a line was put for the message that the reader told
-  pub first_listed : (m : Message) (n : ℕ) → reading_numbers (Ok (record { message = m; length = n })) ≡ read_of s
+  pub first_listed : (m : Message) (n offset : ℕ) (out : List ℕ) (at : ℕ) → reading_numbers (Ok (record { message = m; length = n })) ≡ read_of s
       → {kind count r : ℕ} {after : List ℕ} → kind ≡ get_or (message_numbers m) 0 0 → count ≡ get_or (message_numbers m) 1 0
       → PutsLine (message_line offset kind count (n - 1)) out at after r
-      → Lists (first_of s) s offset out at after (record { used = n; put = r; fault = None }) × (None ≡ fault_by (decide s))
-  unfolding first_of sound_first fault_by bytes_of lines_of line_of
-  first_listed m n e {kind} {count} {r} {after} k c p =
-      let d = read_sound s m n e in
+      → (decide s ≡ Sound n) × PutsLine (line_of offset (take n s)) out at after r
+  unfolding line_of
+  first_listed m n offset out at e {kind} {count} {r} {after} k c p =
       let t = read_told s m n e in
       let z = read_size s m n e in
       let low = z.0 in
-      let b : length (take n s) + 0 ≡ n = add-zero (length (take n s)) ∙ length-take-le n s z.1 in
       let line : message_line offset kind count (n - 1) ≡ line_of offset (take n s) =
       rw (type_take n s low, count_take n s low, size_take n s low, k ∙ t.kind, c ∙ t.count, z.2) in
-      rw d (
-        record {
-          used = sym b;
-          within = z.1;
-          puts = rw (append-nil (line_of offset (take n s)), ← line) p.puts;
-          room = omega (arith, p.room, low);
-        },
-        refl,
-      )
+      (read_sound s m n e, rw (← line) p)

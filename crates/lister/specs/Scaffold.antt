@@ -2,7 +2,7 @@
 use Rattle.std.specs.Prelude.{ℕ, ◌+◌, ◌*◌, ◌≤◌, ◌≡◌, List, [], ◌∷◌, Option, Some, None, length, take}
 use Rattle.numbers.specs.declared.Fault.{Fault}
 use Rattle.numbers.specs.declared.Refusal.{Refusal}
-use Rattle.numbers.specs.declared.Refusal.TheVariants as refusal
+use Rattle.numbers.specs.Refusal.{fault_told}
 use Rattle.frame.specs.Decide.{decide}
 use Rattle.frame.specs.declared.Decision.{Decision}
 use Rattle.frame.specs.declared.Decision.TheVariants.{Undecided, Faulty, Sound}
@@ -28,17 +28,7 @@ fault_by (Sound n) = None
 
 -- The fault that a refusal tells, if it tells one.
 abbrev pub fault_of : Refusal → Option Fault
-fault_of refusal.BadRecord = None
-fault_of refusal.BadArea = None
-fault_of refusal.NoConnection = None
-fault_of refusal.NoRoom = None
-fault_of refusal.TableFull = None
-fault_of refusal.ClockBack = None
-fault_of (refusal.Fault f) = Some f
-fault_of refusal.Short = None
-fault_of refusal.TooLong = None
-fault_of refusal.BadEntry = None
-fault_of refusal.NoEntry = None
+fault_of r = fault_told r
 
 -- What bytes that are not sound decide, by their fault; how many of them it takes is left out.
 unfoldable pub stopped_by : Option Fault → Decision

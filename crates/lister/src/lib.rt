@@ -1,18 +1,28 @@
 //! The listing of some bytes: a line for each message, and a last line that says how it ended.
 #![tactic(auto)]
 
-ghost use Rattle.std.specs.Prelude.{◌≡◌, ◌++◌, ◌+◌, ◌*◌, ◌^◌, ◌≤◌, ◌<◌, length, take, drop, None};
+ghost use Rattle.std.specs.Prelude.{◌≡◌, ◌++◌, ◌+◌, ◌*◌, ◌^◌, ◌≤◌, ◌<◌, length, take, drop, None, [], MatchResult};
 ghost use Rattle.frame.specs.Limits.{greatest_size};
 ghost use Rattle.frame.specs.Decide.{decide};
+ghost use Rattle.frame.specs.declared.Decision.TheVariants.{Sound};
 ghost use Rattle.lines.specs.Scaffold.{line_room, PutsLine};
 ghost use Rattle.split.specs.Split.{sound_messages};
-ghost use Rattle.lister.specs.Listing.{last_by, unlisted};
+ghost use Rattle.lister.specs.Listing.{line_of, last_by, unlisted};
 ghost use Rattle.lister.specs.Pieces.{over_by, ListsPiece, Pieces};
-ghost use Rattle.lister.specs.Scaffold.{first_of, fault_of, fault_by, stopped_by, Lists};
+ghost use Rattle.lister.specs.Scaffold.{first_of, fault_by, stopped_by, Lists};
 ghost use Rattle.lister.specs.Sample.{SampleListed};
 
-use numbers::{Fault, Refusal};
+use numbers::Fault;
 use reader::Reading;
+
+// The line of a message.
+#[derive(Clone, Copy)]
+struct Line {
+    // the message's bytes
+    length: usize,
+    // the place in the output behind the line
+    put: usize,
+}
 
 #[derive(Clone, Copy)]
 struct Listed {
@@ -35,37 +45,22 @@ pub struct Piece {
     pub over: bool,
 }
 
-// The fault that a refusal tells, if it tells one.
-fn fault_of(refusal: Refusal) -> Option<Fault>
-    ensures { result ≡ fault_of refusal }
-{
-    match refusal {
-        Refusal::Fault(fault) => Some(fault),
-        _ => None,
-    }
-}
-
-// Lists the message at the front of s, if it is sound.
+// Lists the message at the front of s, if it is sound; else hands back the fault of s, if it has one.
 #[tactic(auto, using(crate::proofs::Readings::read_size, crate::proofs::Walks::first_listed, crate::proofs::Walks::first_refused))]
-fn list_first(s: &[u8], offset: u64, out: &mut [u8], at: usize) -> Listed
+fn list_first(s: &[u8], offset: u64, out: &mut [u8], at: usize) -> Result<Line, Option<Fault>>
     requires { at + line_room ≤ length out.old }
-    ensures { Lists (first_of s.now) s.now offset out.old at out.new result
-        × (result.fault ≡ fault_by (decide s.now)) }
+    ensures { MatchResult result
+        (λ line. (decide s.now ≡ Sound line.length)
+        × PutsLine (line_of offset (take line.length s.now)) out.old at out.new line.put)
+        (λ fault. (first_of s.now ≡ []) × (fault ≡ fault_by (decide s.now)) × (out.new ≡ out.old)) }
 {
     match reader::read_message(s) {
         Ok(Reading { message, length }) => {
             let size = (length - 1) as u16;
-            Listed {
-                used: length,
-                put: lines::put_message(out, at, offset, message.kind(), message.count(), size),
-                fault: None,
-            }
+            let put = lines::put_message(out, at, offset, message.kind(), message.count(), size);
+            Ok(Line { length, put })
         }
-        Err(refusal) => Listed {
-            used: 0,
-            put: at,
-            fault: fault_of(refusal),
-        },
+        Err(refusal) => Err(refusal.fault()),
     }
 }
 
@@ -79,16 +74,13 @@ fn list_messages(s: &[u8], offset: u64, out: &mut [u8]) -> Listed
     let mut used = 0;
     let mut put = 0;
     while used < s.len() {
-        let one = list_first(&s[used..], offset + used as u64, out, put);
-        if one.used == 0 {
-            return Listed {
-                used,
-                put,
-                fault: one.fault,
-            };
+        match list_first(&s[used..], offset + used as u64, out, put) {
+            Ok(line) => {
+                used += line.length;
+                put = line.put;
+            }
+            Err(fault) => return Listed { used, put, fault },
         }
-        used += one.used;
-        put = one.put;
     }
     Listed {
         used,

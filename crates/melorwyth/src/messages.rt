@@ -8,7 +8,7 @@ ghost use Rattle.melorwyth.specs.Promises.{ReadingHands, EntryHands, PartHands, 
 ghost use Rattle.melorwyth.specs.Promises.{StartHands, AppendHands, KeepAliveHands};
 
 use fields::{CommandFields, NotificationFields};
-use numbers::Refusal;
+use numbers::{Fault, Refusal};
 use reader::Message;
 
 const NOT_REFUSED: u8 = 0;
@@ -76,13 +76,11 @@ pub struct Written {
 }
 
 // The fault that is told behind a refusal's number, else 0.
+#[tactic(auto, using(numbers::proofs::Tables::told_behind))]
 fn fault_behind(refusal: Refusal) -> u8
     ensures { result ≡ get_or (refusal_numbers refusal) 1 0 }
 {
-    match refusal {
-        Refusal::Fault(fault) => fault.number(),
-        _ => 0,
-    }
+    refusal.fault().map_or(0, Fault::number)
 }
 
 fn unread(number: u8, fault: u8) -> Reading

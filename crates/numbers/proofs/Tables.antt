@@ -1,12 +1,12 @@
 -- A fault, a refusal and a status made again from its numbers. Assumes nothing.
-use Rattle.std.specs.Prelude.{ℕ, ◌≡◌, ◌≢◌, List, refl, cond, get_or, eqb}
+use Rattle.std.specs.Prelude.{ℕ, ◌≡◌, ◌≢◌, List, Option, MatchOption, refl, cond, get_or, eqb}
 use Rattle.std.proofs.Common.{arith}
 use Rattle.laws.proofs.Inverse.{undone_tells}
 use Rattle.numbers.specs.Refusal.{not_refused, bad_record, bad_area, no_connection, no_room, table_full}
-use Rattle.numbers.specs.Refusal.{clock_back, fault, short, too_long, bad_entry, refusal_number, refusal_numbers}
+use Rattle.numbers.specs.Refusal.{clock_back, fault, short, too_long, bad_entry, refusal_number, refusal_numbers, fault_told}
 use Rattle.numbers.specs.Fault.{fault_start, fault_version, fault_size, fault_type, fault_count, fault_number}
 use Rattle.numbers.specs.Status.{no_object, no_method, forbidden, malformed, held_by_other, strange_emitter}
-use Rattle.numbers.specs.Status.{bad_value, out_of_turn, no_free_entry, status_number}
+use Rattle.numbers.specs.Status.{bad_value, out_of_turn, carried_out, status_number}
 use Rattle.numbers.specs.Table.{NamesTell, NumbersTable}
 use Rattle.numbers.specs.declared.Fault.{Fault}
 use Rattle.numbers.specs.declared.Fault.TheVariants as faults
@@ -67,8 +67,7 @@ status_back n =
     (cond (eqb n held_by_other) statuses.HeldByOther
     (cond (eqb n strange_emitter) statuses.StrangeEmitter
     (cond (eqb n bad_value) statuses.BadValue
-    (cond (eqb n out_of_turn) statuses.OutOfTurn
-    (cond (eqb n no_free_entry) statuses.NoFreeEntry statuses.CarriedOut))))))))
+    (cond (eqb n out_of_turn) statuses.OutOfTurn statuses.NoFreeEntry)))))))
 
 status_back_lem : (s : Status) → status_back (status_number s) ≡ s
 unfolding status_back
@@ -81,7 +80,6 @@ status_back_lem statuses.StrangeEmitter = refl
 status_back_lem statuses.BadValue = refl
 status_back_lem statuses.OutOfTurn = refl
 status_back_lem statuses.NoFreeEntry = refl
-status_back_lem statuses.CarriedOut = refl
 
 -- no number of a refusal is 0 or 7
 refused_by : (r : Refusal) → refusal_number r ≢ not_refused
@@ -110,6 +108,35 @@ never_seven refusals.TooLong e = omega (arith, e)
 never_seven refusals.BadEntry e = omega (arith, e)
 never_seven refusals.NoEntry e = omega (arith, e)
 
+-- nor is one of a status 0
+pub failed_by : (s : Status) → status_number s ≢ carried_out
+failed_by statuses.NoObject e = omega (arith, e)
+failed_by statuses.NoMethod e = omega (arith, e)
+failed_by statuses.Forbidden e = omega (arith, e)
+failed_by statuses.Malformed e = omega (arith, e)
+failed_by statuses.HeldByOther e = omega (arith, e)
+failed_by statuses.StrangeEmitter e = omega (arith, e)
+failed_by statuses.BadValue e = omega (arith, e)
+failed_by statuses.OutOfTurn e = omega (arith, e)
+failed_by statuses.NoFreeEntry e = omega (arith, e)
+
+-- the fault's number stands behind that of the refusal
+pub told_behind : (r : Refusal) (o : Option Fault) (n : ℕ) → o ≡ fault_told r → MatchOption o (n ≡ 0) (λ f. n ≡ fault_number f) → n ≡ get_or (refusal_numbers r) 1 0
+told_behind r o n b e = go r (rw b at e)
+  where
+    go : (r : Refusal) → MatchOption (fault_told r) (n ≡ 0) (λ f. n ≡ fault_number f) → n ≡ get_or (refusal_numbers r) 1 0
+    go refusals.BadRecord e = e
+    go refusals.BadArea e = e
+    go refusals.NoConnection e = e
+    go refusals.NoRoom e = e
+    go refusals.TableFull e = e
+    go refusals.ClockBack e = e
+    go (refusals.Fault f) e = e
+    go refusals.Short e = e
+    go refusals.TooLong e = e
+    go refusals.BadEntry e = e
+    go refusals.NoEntry e = e
+
 names_tell : NamesTell
 names_tell =
     record {
@@ -118,6 +145,7 @@ names_tell =
       status_told = undone_tells status_number status_back status_back_lem;
       refused = refused_by;
       no_seven = never_seven;
+      failed = failed_by;
       every_fault = refl;
       every_refusal = λ f. refl;
       every_status = refl;

@@ -1,5 +1,5 @@
 -- R63. The refusals of a call, by name.
-use Rattle.std.specs.Prelude.{ℕ, List, [], ◌∷◌}
+use Rattle.std.specs.Prelude.{ℕ, List, [], ◌∷◌, Option, Some, None}
 use Rattle.numbers.specs.Fault.{fault_number}
 use Rattle.numbers.specs.declared.Fault.{Fault}
 use Rattle.numbers.specs.declared.Refusal.{Refusal}
@@ -88,3 +88,17 @@ refusal_numbers refusal.NoEntry = no_entry ∷ []
 -- R17, R63. A fault as the refusal of what reads it.
 abbrev pub fault_refusal : Fault → Refusal
 fault_refusal f = refusal.Fault f
+
+-- R17, R63. The fault that a refusal tells behind its number; the others tell none.
+abbrev pub fault_told : Refusal → Option Fault
+fault_told refusal.BadRecord = None
+fault_told refusal.BadArea = None
+fault_told refusal.NoConnection = None
+fault_told refusal.NoRoom = None
+fault_told refusal.TableFull = None
+fault_told refusal.ClockBack = None
+fault_told (refusal.Fault f) = Some f
+fault_told refusal.Short = None
+fault_told refusal.TooLong = None
+fault_told refusal.BadEntry = None
+fault_told refusal.NoEntry = None

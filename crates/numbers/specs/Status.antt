@@ -49,7 +49,7 @@ statuses =
     no_object ∷ no_method ∷ forbidden ∷ malformed ∷ held_by_other ∷ strange_emitter ∷ bad_value ∷ out_of_turn
     ∷ no_free_entry ∷ carried_out ∷ []
 
--- R40. The number of a status.
+-- R40. The number of a status that a command fails with: the others than 0.
 abbrev pub status_number : Status → ℕ
 status_number status.NoObject = no_object
 status_number status.NoMethod = no_method
@@ -60,4 +60,3 @@ status_number status.StrangeEmitter = strange_emitter
 status_number status.BadValue = bad_value
 status_number status.OutOfTurn = out_of_turn
 status_number status.NoFreeEntry = no_free_entry
-status_number status.CarriedOut = carried_out

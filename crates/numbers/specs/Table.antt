@@ -1,5 +1,5 @@
 -- R17, R40, R63, R66. Each name with its number: a number changed elsewhere is refused here.
-use Rattle.std.specs.Prelude.{◌≡◌, ◌≢◌, List, [], ◌∷◌, map}
+use Rattle.std.specs.Prelude.{◌≡◌, ◌≢◌, List, [], ◌∷◌, ◌++◌, map}
 use Rattle.numbers.specs.Refusal.{not_refused, bad_record, bad_area, no_connection, no_room, table_full}
 use Rattle.numbers.specs.Refusal.{clock_back, fault, short, too_long, bad_entry, no_entry, refusal_number, refusal_numbers, refusals}
 use Rattle.numbers.specs.Fault.{fault_start, fault_version, fault_size, fault_type, fault_count, fault_data, fault_number, faults}
@@ -80,24 +80,25 @@ refusal_names f =
     ∷ refusal_named.ClockBack ∷ refusal_named.Fault f ∷ refusal_named.Short ∷ refusal_named.TooLong ∷ refusal_named.BadEntry
     ∷ refusal_named.NoEntry ∷ []
 
--- R40. Every status, in the order in which they are tried.
+-- R40. Every status of a failure, in the order in which they are tried.
 abbrev pub status_names : List Status
 status_names =
     status_named.NoObject ∷ status_named.NoMethod ∷ status_named.Forbidden ∷ status_named.Malformed ∷ status_named.HeldByOther
-    ∷ status_named.StrangeEmitter ∷ status_named.BadValue ∷ status_named.OutOfTurn ∷ status_named.NoFreeEntry
-    ∷ status_named.CarriedOut ∷ []
+    ∷ status_named.StrangeEmitter ∷ status_named.BadValue ∷ status_named.OutOfTurn ∷ status_named.NoFreeEntry ∷ []
 
--- R17, R40, R63. What is told of a fault, a refusal or a status tells it from every other; no refusal tells 0 or 7.
+-- R17, R40, R63. What is told of a fault, a refusal or a status tells it from every other; no refusal tells 0 or 7, and no status
+-- of a failure 0.
 pub record NamesTell : Type 0 where
   pub fault_told : (f g : Fault) → fault_number f ≡ fault_number g → f ≡ g
   pub refusal_told : (r q : Refusal) → refusal_numbers r ≡ refusal_numbers q → r ≡ q
   pub status_told : (s t : Status) → status_number s ≡ status_number t → s ≡ t
   pub refused : (r : Refusal) → refusal_number r ≢ not_refused
   pub no_seven : (r : Refusal) → refusal_number r ≢ 7
-  -- the names in their order have the numbers of the lists
+  pub failed : (s : Status) → status_number s ≢ carried_out
+  -- the names in their order have the numbers of the lists; a command that is carried out is tried last
   pub every_fault : map fault_number fault_names ≡ faults
   pub every_refusal : (f : Fault) → map refusal_number (refusal_names f) ≡ refusals
-  pub every_status : map status_number status_names ≡ statuses
+  pub every_status : map status_number status_names ++ carried_out ∷ [] ≡ statuses
 
 -- Theorem. Every refusal, fault, kind and status has the number that its table prints, and no other has it.
 pub record NumbersTable : Type 0 where

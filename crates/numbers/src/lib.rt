@@ -1,8 +1,8 @@
-//! Refusals, faults, statuses and kinds of answer: each an enum, and its number in one place.
+//! Refusals, faults and statuses: each an enum, and its number in one place.
 #![tactic(auto)]
 
 ghost use Rattle.std.specs.Prelude.{◌≡◌};
-ghost use Rattle.numbers.specs.Refusal.{refusal_number, fault_refusal};
+ghost use Rattle.numbers.specs.Refusal.{refusal_number, fault_refusal, fault_told};
 ghost use Rattle.numbers.specs.Fault.{fault_number};
 ghost use Rattle.numbers.specs.Status.{status_number};
 ghost use Rattle.numbers.specs.Table.{NumbersTable};
@@ -54,7 +54,7 @@ pub enum Refusal {
     NoEntry,
 }
 
-/// The status of a response, in the order in which it is tried.
+/// Why a command is not carried out, in the order in which it is tried; the status of one that is carried out is 0.
 #[derive(Clone, Copy, Debug, PartialEq, Eq)]
 pub enum Status {
     /// The target is no object.
@@ -75,8 +75,6 @@ pub enum Status {
     OutOfTurn,
     /// All subscription entries are used.
     NoFreeEntry,
-    /// The command was carried out.
-    CarriedOut,
 }
 
 impl Fault {
@@ -112,6 +110,16 @@ impl Refusal {
             Refusal::NoEntry => 12,
         }
     }
+
+    /// The fault that the bytes decide, where that is why.
+    pub fn fault(self) -> Option<Fault>
+        ensures { result ≡ fault_told self }
+    {
+        match self {
+            Refusal::Fault(fault) => Some(fault),
+            _ => None,
+        }
+    }
 }
 
 impl Status {
@@ -128,7 +136,6 @@ impl Status {
             Status::BadValue => 7,
             Status::OutOfTurn => 9,
             Status::NoFreeEntry => 10,
-            Status::CarriedOut => 0,
         }
     }
 }
@@ -156,9 +163,15 @@ impl fmt::Display for Refusal {
     }
 }
 
+impl fmt::Display for Status {
+    fn fmt<W: fmt::Write>(&self, f: &mut fmt::Formatter<W>) -> fmt::Result {
+        write!(f, "{}", self.number())
+    }
+}
+
 impl Error for Refusal {}
 
-// Each name with its number; no two refusals tell the same, and none has 7.
+// Each name with its number; no two refusals tell the same, and none has 7; no status of a failure is 0.
 #[tactic(auto, using(crate::proofs::Tables::numbers_table))]
 pub fn numbers_table()
     ensures { NumbersTable }

@@ -107,9 +107,9 @@ module _ (t m count : ℕ) (part : List ℕ) where
       rw (← o, is method.Class, is method.Lockable, is method.Lock, is method.Unlock, is method.Get, is method.Set, is method.Add, is method.Remove, is method.ResetKey)
 
   -- a status that a call handed up
-  pub first_err : (r : Result Method Status) (s : Status) → IsErrAnd r (λ e. e ≡ s) → status_number s ≡ first_status t m count part → status_number s ≢ 0 → FirstStatus t m count part r
-  first_err (Ok x) s i e n = absurd i
-  first_err (Err y) s i e n = rw i (e, n)
+  pub first_err : (r : Result Method Status) (s : Status) → IsErrAnd r (λ e. e ≡ s) → status_number s ≡ first_status t m count part → FirstStatus t m count part r
+  first_err (Ok x) s i e = absurd i
+  first_err (Err y) s i e = rw i e
 
 module _ (t : ℕ) (x : Method) (m count : ℕ) (part : List ℕ) (e : method_of x ≡ m) (o : true ≡ is_object t) where
   pub first_method : false ≡ has_method t (method_of x) → no_method ≡ first_status t m count part

@@ -40,6 +40,9 @@ const VALUE: usize = PROPERTY + 4;
 
 const CHANGE_TYPE: usize = VALUE + 1;
 
+// The status of a command that was carried out; what it fails with is a `Status`.
+const CARRIED_OUT: u8 = 0;
+
 /// One response from place `at` on, of these parameter bytes: the place behind it.
 #[tactic(auto, using(crate::proofs::Puts::response_stores))]
 pub fn put_response(
@@ -71,10 +74,14 @@ pub fn put_answer(out: &mut [u8], at: usize, handle: u32, answer: Result<Reply, 
         × (out.new ≡ sets out.old at (response_bytes handle (answer_in answer))) }
 {
     match answer {
-        Ok(reply) => {
-            let status = Status::CarriedOut.number();
-            put_response(out, at, handle, status, reply.count(), reply.parameters())
-        }
+        Ok(reply) => put_response(
+            out,
+            at,
+            handle,
+            CARRIED_OUT,
+            reply.count(),
+            reply.parameters(),
+        ),
         Err(status) => put_response(out, at, handle, status.number(), 0, &[]),
     }
 }

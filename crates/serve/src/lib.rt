@@ -37,7 +37,7 @@ fn answer_to(
     }
 }
 
-// Runs count commands of connection n; those of type 1 are answered from place 10 of the output on.
+// Runs count commands of connection n; those of type 1 are answered from the end of the output's header on.
 #[tactic(auto, using(laws::proofs::Parts::rest, frame::proofs::Entries::offset_other, frame::proofs::Entries::least_command_lem, crate::proofs::Serves::size_given, crate::proofs::Serves::serving_none, crate::proofs::Serves::serving_step, crate::proofs::Serves::serving_last, crate::proofs::Serves::serving_end, crate::proofs::Serves::serving_bytes), unfolding(crate::specs::Serve::ran_first))]
 fn serve(device: &mut Device, n: u8, kind: u8, count: u16, body: &[u8], out: &mut [u8]) -> usize
     requires { (kind < 2) × (entries_fill count kind body.now ≡ true) × (10 + count * 22 ≤ length out.old) }
@@ -47,16 +47,14 @@ fn serve(device: &mut Device, n: u8, kind: u8, count: u16, body: &[u8], out: &mu
         × (out.new ≡ cond (eqb kind 0) out.old (sets out.old 10 told)) }
 {
     let mut t = body;
-    let mut left = count;
-    let mut at: usize = 10;
-    while 0 < left {
+    let mut at = frame::HEADER_END;
+    for _ in 0..count {
         let size = frame::given_size(t);
         let e = &t[..size];
         let c = fields::command_of(e);
         let answer = command::run(device, n, c, fields::parameters(kind, e));
         at = answer_to(out, at, kind, c.handle, answer);
         t = &t[size..];
-        left -= 1;
     }
     at
 }

@@ -1,9 +1,10 @@
-use Rattle.std.proofs.Common.{◌≡◌, ◌+◌, ◌*◌, length, drop}
+use Rattle.std.proofs.Common.{◌≡◌, ◌*◌, length}
 use Rattle.area.specs.Area.{parts_sound}
 use Rattle.area.proofs.parts_sound.Given as goal
 
-abbrev pub invariant-loop-k : goal.invariant-loop-k
-invariant-loop-k l = record {
-  same : parts_sound l.fn.held l.area ≡ parts_sound (drop l.k-index l.fn.held) l.rest;
-  left : length l.rest + l.k-index * 2049 ≡ 16392;
+abbrev pub invariant-loop-part : goal.invariant-loop-part
+invariant-loop-part l = record {
+  same : parts_sound l.fn.held l.fn.area ≡ parts_sound l.part-iterator.b.rest.now l.part-iterator.a.rest.now;
+  left : length l.part-iterator.a.rest.now ≡ length l.part-iterator.b.rest.now * 2049;
+  size : l.part-iterator.a.size ≡ 2049;
 }

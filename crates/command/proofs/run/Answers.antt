@@ -6,10 +6,10 @@ use Rattle.command.proofs.Acts.{ran_stopped, ran_class, ran_lockable, ran_lock, 
 use Rattle.command.proofs.Books.{added_formed, removed_formed, armed_formed, ran_add, ran_remove, ran_arm}
 use Rattle.command.proofs.run.Goals as goal
 
-pub returns-in_err-first_status-clause-runs : goal.returns-in_err-first_status-clause-runs
-returns-in_err-first_status-clause-runs c =
+pub returns-in_err-first_status : goal.returns-in_err-first_status
+returns-in_err-first_status c =
     let e = c.in_err-first_status.ensures in
-    ran_stopped _ _ _ _ _ _ c.in_err-first_status.field-0.0 e.0 e.1 c.from_residual.result c.from_residual.ensures.1
+    ran_stopped _ _ _ _ _ _ c.in_err-first_status.field-0.0 e c.from_residual.result c.from_residual.ensures.1
 
 pub place-requires : goal.place-requires
 place-requires c =
@@ -52,66 +52,66 @@ bounds-part-0 c =
     let w : length c.args.part.now ≡ 1 = value_given _ _ _ _ e.1 (asked _ method.Set e.0 c.in-Set.is) in
     omega arith
 
-pub returns-in-Class-clause-runs : goal.returns-in-Class-clause-runs
-returns-in-Class-clause-runs c =
+pub returns-in-Class : goal.returns-in-Class
+returns-in-Class c =
     let e = c.in_ok-first_status.ensures in
     rw c.of.ensures (ran_class _ _ _ _ e.1 c.args.device.now c.args.n (asked _ method.Class e.0 c.in-Class.is))
 
-pub returns-in-Lockable-clause-runs : goal.returns-in-Lockable-clause-runs
-returns-in-Lockable-clause-runs c =
+pub returns-in-Lockable : goal.returns-in-Lockable
+returns-in-Lockable c =
     let e = c.in_ok-first_status.ensures in
     ran_lockable _ _ _ _ e.1 _ _ _ c.is_mute.ensures (asked _ method.Lockable e.0 c.in-Lockable.is)
 
-pub returns-in-Lock-clause-runs : goal.returns-in-Lock-clause-runs
-returns-in-Lock-clause-runs c =
+pub returns-in-Lock : goal.returns-in-Lock
+returns-in-Lock c =
     let e = c.in_ok-first_status.ensures in
     let k = asked _ method.Lock e.0 c.in-Lock.is in
-    ran_lock _ _ _ _ e.1 _ _ (lock_muting _ k) _ c.place.ensures k _ (c.lock.ensures.acts c.args.device.now.mutes)
+    ran_lock _ _ _ _ e.1 _ _ (lock_muting _ k) _ c.place.ensures k _ (c.lock.ensures c.args.device.now.mutes)
 
-pub returns-in-Unlock-clause-runs : goal.returns-in-Unlock-clause-runs
-returns-in-Unlock-clause-runs c =
+pub returns-in-Unlock : goal.returns-in-Unlock
+returns-in-Unlock c =
     let e = c.in_ok-first_status.ensures in
     let k = asked _ method.Unlock e.0 c.in-Unlock.is in
-    ran_unlock _ _ _ _ e.1 _ _ (unlock_muting _ k) _ c.place-in-Unlock.ensures k _ (c.unlock.ensures.acts c.args.device.now.mutes)
+    ran_unlock _ _ _ _ e.1 _ _ (unlock_muting _ k) _ c.place-in-Unlock.ensures k _ (c.unlock.ensures c.args.device.now.mutes)
 
-pub returns-in-Get-clause-runs : goal.returns-in-Get-clause-runs
-returns-in-Get-clause-runs c =
+pub returns-in-Get : goal.returns-in-Get
+returns-in-Get c =
     let e = c.in_ok-first_status.ensures in
     let k = asked _ method.Get e.0 c.in-Get.is in
     ran_get _ _ _ _ e.1 _ _ (get_muting _ k) _ c.place-in-Get.ensures k
 
-pub returns-in-Add-clause-runs : goal.returns-in-Add-clause-runs
-returns-in-Add-clause-runs c =
+pub returns-in-Add : goal.returns-in-Add
+returns-in-Add c =
     let e = c.in_ok-first_status.ensures in
-    ran_add _ _ _ _ e.1 c.args.device.now _ (asked _ method.Add e.0 c.in-Add.is) _ _ c.subscribe.ensures.stores
+    ran_add _ _ _ _ e.1 c.args.device.now _ (asked _ method.Add e.0 c.in-Add.is) _ _ c.subscribe.ensures
 
-pub returns-in-Remove-clause-runs : goal.returns-in-Remove-clause-runs
-returns-in-Remove-clause-runs c =
+pub returns-in-Remove : goal.returns-in-Remove
+returns-in-Remove c =
     let e = c.in_ok-first_status.ensures in
-    ran_remove _ _ _ _ e.1 c.args.device.now _ (asked _ method.Remove e.0 c.in-Remove.is) _ _ c.unsubscribe.ensures.stores
+    ran_remove _ _ _ _ e.1 c.args.device.now _ (asked _ method.Remove e.0 c.in-Remove.is) _ _ c.unsubscribe.ensures
 
-pub returns-in-ResetKey-clause-runs : goal.returns-in-ResetKey-clause-runs
-returns-in-ResetKey-clause-runs c =
+pub returns-in-ResetKey : goal.returns-in-ResetKey
+returns-in-ResetKey c =
     let e = c.in_ok-first_status.ensures in
-    ran_arm _ _ _ _ e.1 c.args.device.now _ (asked _ method.ResetKey e.0 c.in-ResetKey.is) _ _ c.arm.ensures.arms
+    ran_arm _ _ _ _ e.1 c.args.device.now _ (asked _ method.ResetKey e.0 c.in-ResetKey.is) _ _ c.arm.ensures
 
-pub returns-in_err-set-in-Set-clause-runs : goal.returns-in_err-set-in-Set-clause-runs
-returns-in_err-set-in-Set-clause-runs c =
+pub returns-in_err-set-in-Set : goal.returns-in_err-set-in-Set
+returns-in_err-set-in-Set c =
     let e = c.in_ok-first_status.ensures in
     let k = asked _ method.Set e.0 c.in-Set.is in
     let r = c.from_residual-in_err-set-in-Set in
     rw (err_answer r.result c.in_err-set-in-Set.field-0.0 r.ensures.1)
-    (ran_set _ _ _ _ e.1 c.args.device.now c.args.n (set_muting _ k) _ c.place-at.ensures k _ c.in_err-set-in-Set.ensures.acts)
+    (ran_set _ _ _ _ e.1 c.args.device.now c.args.n (set_muting _ k) _ c.place-at.ensures k _ c.in_err-set-in-Set.ensures)
 
-pub returns-then-branch-clause-runs : goal.returns-then-branch-clause-runs
-returns-then-branch-clause-runs c =
+pub returns-then-branch : goal.returns-then-branch
+returns-then-branch c =
     let e = c.in_ok-first_status.ensures in
     let k = asked _ method.Set e.0 c.in-Set.is in
     rw c.all_marked.ensures
-    (ran_set _ _ _ _ e.1 c.args.device.now c.args.n (set_muting _ k) _ c.place-at.ensures k _ (rw c.if-branch.true at c.in_ok-set-in-Set.ensures.acts))
+    (ran_set _ _ _ _ e.1 c.args.device.now c.args.n (set_muting _ k) _ c.place-at.ensures k _ (rw c.if-branch.true at c.in_ok-set-in-Set.ensures))
 
-pub returns-else-branch-clause-runs : goal.returns-else-branch-clause-runs
-returns-else-branch-clause-runs c =
+pub returns-else-branch : goal.returns-else-branch
+returns-else-branch c =
     let e = c.in_ok-first_status.ensures in
     let k = asked _ method.Set e.0 c.in-Set.is in
-    ran_set _ _ _ _ e.1 c.args.device.now c.args.n (set_muting _ k) _ c.place-at.ensures k _ (rw c.if-branch.false at c.in_ok-set-in-Set.ensures.acts)
+    ran_set _ _ _ _ e.1 c.args.device.now c.args.n (set_muting _ k) _ c.place-at.ensures k _ (rw c.if-branch.false at c.in_ok-set-in-Set.ensures)

@@ -1,16 +1,24 @@
-use lib.ListN.{drop, length-drop}
+use Rattle.std.proofs.Common.{◌≤◌, length, drop, length-drop, arith}
 use Rattle.laws.proofs.Parts.{rest}
+use Rattle.frame.proofs.Sounds.{sound_at}
 use Rattle.lister.proofs.Walks.{walked_stop, walked_all, nothing_unsound, nothing_fault}
-use Prim.Native.Nat.{◌≤◌}
-use lib.ListN.{length}
-use native.Mathlib.Omega.{arith}
 use Rattle.lister.proofs.list_messages.Goals as goal
 
-pub returns-then-one-eq0 : goal.returns-then-one-eq0
-returns-then-one-eq0 c =
+pub overflow_add-used : goal.overflow_add-used
+overflow_add-used c =
+    let x = sound_at _ _ c.in-Ok.ensures.0 in
+    omega (arith, x.high)
+
+pub loop-used-smaller : goal.loop-used-smaller
+loop-used-smaller c =
+    let x = sound_at _ _ c.in-Ok.ensures.0 in
+    omega (arith, x.low, x.high, c.loop-used-test.true)
+
+pub returns-in-Err : goal.returns-in-Err
+returns-in-Err c =
     let l = c.loop-used in
-    let p = c.list_first-one.ensures in
-    walked_stop l.invariant (rest l.used c.args.s.now) p.0 (omega arith) p.1
+    let p = c.in-Err.ensures in
+    walked_stop l.invariant (rest l.used c.args.s.now) p.0 p.1 p.2
 
 pub returns : goal.returns
 returns c =

@@ -1,8 +1,6 @@
+use Rattle.std.proofs.Common.{◌-◌}
 use Rattle.serve.proofs.Serves.{Serving}
 use Rattle.serve.proofs.serve.Given as goal
 
-abbrev pub invariant-loop-left : goal.invariant-loop-left
-invariant-loop-left l = Serving l.n l.kind l.count l.body l.initial.out l.initial.device l.out l.device l.t l.left l.at
-
-abbrev pub decreases-loop-left : goal.decreases-loop-left
-decreases-loop-left l = l.left
+abbrev pub invariant-loop : goal.invariant-loop
+invariant-loop l = Serving l.n l.kind l.count l.body l.initial.out l.initial.device l.out l.device l.t (l.count - l.counter) l.at

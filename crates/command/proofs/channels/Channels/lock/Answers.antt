@@ -1,4 +1,4 @@
 use Rattle.command.proofs.channels.Channels.lock.Goals as goal
 
-pub returns-clause-acts : goal.returns-clause-acts
-returns-clause-acts c = c.lock-answer.ensures.acts c.args.self.mutes
+pub returns : goal.returns
+returns c = c.lock-answer.ensures c.args.self.mutes

@@ -1,4 +1,4 @@
 use Rattle.command.proofs.channels.Channels.unlock.Goals as goal
 
-pub returns-clause-acts : goal.returns-clause-acts
-returns-clause-acts c = c.unlock-answer.ensures.acts c.args.self.mutes
+pub returns : goal.returns
+returns c = c.unlock-answer.ensures c.args.self.mutes
