@@ -1,5 +1,5 @@
 -- R66. The kinds of an answer that refuses nothing, by name.
-use Rattle.std.specs.Prelude.{ℕ}
+use Rattle.std.specs.Prelude.{ℕ, List, [], ◌∷◌}
 
 -- R66. Of a delivery: more needed.
 abbrev pub kind_more : ℕ
@@ -32,3 +32,7 @@ kind_unchanged = 0
 -- R66. Of a datagram: a reset.
 abbrev pub kind_reset : ℕ
 kind_reset = 1
+
+-- R66. All of them, in that order.
+abbrev pub kinds : List ℕ
+kinds = kind_more ∷ kind_message ∷ kind_closed ∷ kind_nothing ∷ kind_notification ∷ kind_keep_alive ∷ kind_unchanged ∷ kind_reset ∷ []

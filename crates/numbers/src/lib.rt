@@ -1,14 +1,47 @@
-//! Refusals, faults and statuses: each an enum, and its number in one place.
+//! Refusals, faults, kinds of answer and statuses, by name, each number in one place.
 #![tactic(auto)]
 
-ghost use Rattle.std.specs.Prelude.{◌≡◌};
+ghost use Rattle.std.specs.Prelude.{◌≡◌, Some};
+ghost use Rattle.std.specs.Fmt.{decimal};
 ghost use Rattle.numbers.specs.Refusal.{refusal_number, fault_refusal, fault_told};
 ghost use Rattle.numbers.specs.Fault.{fault_number};
+ghost use Rattle.numbers.specs.Kind.{kinds};
 ghost use Rattle.numbers.specs.Status.{status_number};
+ghost use Rattle.numbers.specs.Text.{refusal_text};
 ghost use Rattle.numbers.specs.Table.{NumbersTable};
 
 use std::error::Error;
 use std::fmt;
+
+/// The number of an answer that refuses nothing.
+pub const NOT_REFUSED: u8 = 0;
+
+/// The kind of a delivery's answer: more is needed.
+pub const KIND_MORE: u8 = 1;
+
+/// The kind of a delivery's answer: a message was carried out.
+pub const KIND_MESSAGE: u8 = 2;
+
+/// The kind of a delivery's answer: closed by a fault.
+pub const KIND_CLOSED: u8 = 3;
+
+/// The kind of a taking's answer: nothing waits to be sent.
+pub const KIND_NOTHING: u8 = 0;
+
+/// The kind of a taking's answer: a notification.
+pub const KIND_NOTIFICATION: u8 = 1;
+
+/// The kind of a taking's answer: a keep-alive.
+pub const KIND_KEEP_ALIVE: u8 = 2;
+
+/// The kind of a datagram's answer: nothing changed.
+pub const KIND_UNCHANGED: u8 = 0;
+
+/// The kind of a datagram's answer: the device started anew.
+pub const KIND_RESET: u8 = 1;
+
+/// The status of a command that is carried out.
+pub const CARRIED_OUT: u8 = 0;
 
 /// What is wrong with a message, in the order in which it is looked for.
 #[derive(Clone, Copy, Debug, PartialEq, Eq)]
@@ -149,12 +182,16 @@ impl From<Fault> for Refusal {
 }
 
 impl fmt::Display for Fault {
+    ghost output = { λ f. Some (decimal (fault_number f)) };
+
     fn fmt<W: fmt::Write>(&self, f: &mut fmt::Formatter<W>) -> fmt::Result {
         write!(f, "{}", self.number())
     }
 }
 
 impl fmt::Display for Refusal {
+    ghost output = { λ r. Some (refusal_text r) };
+
     fn fmt<W: fmt::Write>(&self, f: &mut fmt::Formatter<W>) -> fmt::Result {
         match self {
             Refusal::Fault(fault) => write!(f, "{} {fault}", self.number()),
@@ -164,12 +201,30 @@ impl fmt::Display for Refusal {
 }
 
 impl fmt::Display for Status {
+    ghost output = { λ s. Some (decimal (status_number s)) };
+
     fn fmt<W: fmt::Write>(&self, f: &mut fmt::Formatter<W>) -> fmt::Result {
         write!(f, "{}", self.number())
     }
 }
 
 impl Error for Refusal {}
+
+// The code's kinds are those of the definitions.
+pub fn kinds() -> [u8; 8]
+    ensures { result ≡ kinds }
+{
+    [
+        KIND_MORE,
+        KIND_MESSAGE,
+        KIND_CLOSED,
+        KIND_NOTHING,
+        KIND_NOTIFICATION,
+        KIND_KEEP_ALIVE,
+        KIND_UNCHANGED,
+        KIND_RESET,
+    ]
+}
 
 // Each name with its number; no two refusals tell the same, and none has 7; no status of a failure is 0.
 #[tactic(auto, using(crate::proofs::Tables::numbers_table))]
