@@ -4,7 +4,8 @@
 //! datagram [`Resetting`].
 #![tactic(auto)]
 
-ghost use Rattle.std.specs.Prelude.{◌≡◌, ℕ, List};
+ghost use Rattle.std.specs.Prelude.{◌≡◌, ◌<◌, ℕ, List};
+ghost use Rattle.numbers.specs.Kind.{kind_closed};
 ghost use Rattle.numbers.specs.Refusal.{refusal_numbers};
 ghost use Rattle.answers.specs.Numbers.{numbers_with, numbers_of, answer_numbers};
 ghost use Rattle.answers.specs.Numbers.{opening_numbers, closing_numbers};
@@ -76,7 +77,7 @@ fn answered(first: u8, second: usize, third: usize) -> Numbers
     ensures { result ≡ numbers_with 0 first second third }
 {
     Numbers {
-        number: 0,
+        number: numbers::NOT_REFUSED,
         first,
         second,
         third,
@@ -110,12 +111,18 @@ impl Told for Delivery {
 
     ghost tells = { deliveries_tell };
 
+    // A closure's third number is a fault, and fits a byte.
     #[tactic(auto, unfolding(crate::specs::Numbers::numbers_of))]
-    fn numbers(self) -> Numbers {
+    fn numbers(self) -> Numbers
+        ensures told { result ≡ numbers_of (delivery_numbers self) }
+        ensures fits { result.first ≡ kind_closed → result.third < 256 }
+    {
         match self {
-            Delivery::More(taken) => answered(1, taken, 0),
-            Delivery::Message(taken, length) => answered(2, taken, length),
-            Delivery::Closed(taken, fault) => { answered(3, taken, fault.number() as usize) }
+            Delivery::More(taken) => answered(numbers::KIND_MORE, taken, 0),
+            Delivery::Message(taken, length) => answered(numbers::KIND_MESSAGE, taken, length),
+            Delivery::Closed(taken, fault) => {
+                answered(numbers::KIND_CLOSED, taken, fault.number() as usize)
+            }
         }
     }
 }
@@ -125,12 +132,20 @@ impl Told for Taking {
 
     ghost tells = { takings_tell };
 
+    // The second number is a connection's, and fits a byte.
     #[tactic(auto, unfolding(crate::specs::Numbers::numbers_of))]
-    fn numbers(self) -> Numbers {
+    fn numbers(self) -> Numbers
+        ensures told { result ≡ numbers_of (taking_numbers self) }
+        ensures fits { result.second < 256 }
+    {
         match self {
-            Taking::Nothing => answered(0, 0, 0),
-            Taking::Notification(n, length) => answered(1, n as usize, length),
-            Taking::KeepAlive(n, length) => answered(2, n as usize, length),
+            Taking::Nothing => answered(numbers::KIND_NOTHING, 0, 0),
+            Taking::Notification(n, length) => answered(
+                numbers::KIND_NOTIFICATION,
+                n as usize,
+                length,
+            ),
+            Taking::KeepAlive(n, length) => answered(numbers::KIND_KEEP_ALIVE, n as usize, length),
         }
     }
 }
@@ -143,8 +158,8 @@ impl Told for Resetting {
     #[tactic(auto, unfolding(crate::specs::Numbers::numbers_of))]
     fn numbers(self) -> Numbers {
         match self {
-            Resetting::Nothing => answered(0, 0, 0),
-            Resetting::Done => answered(1, 0, 0),
+            Resetting::Nothing => answered(numbers::KIND_UNCHANGED, 0, 0),
+            Resetting::Done => answered(numbers::KIND_RESET, 0, 0),
         }
     }
 }
