@@ -8,6 +8,9 @@ ghost use Rattle.holders.specs.Kept.{HoldersKept};
 
 use connection::Connection;
 
+/// The holders of a device's locks: one for each mute.
+pub const HOLDERS: usize = 8;
+
 /// Connection `n` as a holder: n + 1; 0 for a number that no connection has.
 #[tactic(auto, using(laws::proofs::Conds::tests), unfolding(crate::specs::Holders::owner_of))]
 pub fn owner(n: u8) -> u8
@@ -49,14 +52,14 @@ fn swept(holder: u8, connections: &[Connection; 8]) -> u8
 }
 
 /// Each holder is nobody or an open connection.
-pub fn all_obey(holders: &[u8; 8], connections: &[Connection; 8]) -> bool
+pub fn all_obey(holders: &[u8; HOLDERS], connections: &[Connection; 8]) -> bool
     ensures { result ≡ all (holder_obeys connections.now) holders.now }
 {
     holders.iter().all(|&h| obeys(h, connections))
 }
 
 /// The locks of connections that are not open are freed.
-pub fn all_swept(holders: &mut [u8; 8], connections: &[Connection; 8])
+pub fn all_swept(holders: &mut [u8; HOLDERS], connections: &[Connection; 8])
     ensures { holders.new ≡ map (swept_holder connections.now) holders.old }
 {
     arrays::map_in_place(holders, |h| swept(h, connections));
