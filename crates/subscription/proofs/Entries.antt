@@ -1,5 +1,6 @@
 -- An entry tested, marked, swept or compared. Assumes nothing.
-use Rattle.std.proofs.Common.{ℕ, ◌+◌, ◌-◌, ◌<◌, ◌≤◌, ◌≡◌, refl, sym, ap, ◌∙◌, Bool, true, false, not, ◌&&◌, List, ◌++◌, arith, ne_eqb, le-leb, leb-true, leb, eqb, length, set, get_or, take, drop, replicate, length-take, length-drop}
+use Rattle.std.proofs.Common.{ℕ, ◌+◌, ◌-◌, ◌<◌, ◌≤◌, ◌≡◌, refl, sym, ap, ◌∙◌, Bool, true, false, not, ◌&&◌, List, ◌++◌, arith, ne_eqb, le-leb, leb-true, eqb-true, leb, eqb, length, set, get_or, take, drop, replicate, length-take, length-drop}
+use mathlib.Core.Bool.{and-false}
 use Rattle.std.proofs.Math.Seq.{sets, drop-append-add}
 use Rattle.std.specs.Prelude.{Option, Some, None, IfSome, position}
 use Rattle.std.proofs.lemmas.List.Quantifiers.{position-Some}
@@ -14,7 +15,8 @@ use Rattle.connection.specs.declared.Connection.{Connection}
 use Rattle.subscription.specs.Setters.{with_waiting}
 use Rattle.subscription.specs.State.{free, is_waiting, is_twin, marked_of, told_of, swept_of}
 use Rattle.subscription.specs.Arguments.{context_held}
-use Rattle.subscription.specs.Obeys.{is_context_kept}
+use Rattle.subscription.specs.Obeys.{is_free, is_context_kept}
+use Rattle.subscription.specs.Scaffold.{free_by}
 use Rattle.subscription.specs.declared.Subscription.{Subscription}
 
 -- at the place that the search finds
@@ -56,6 +58,23 @@ twin_not s t h =
     go : (a b c d : Bool) → false ≡ (a && false && b && c && d)
     go true b c d = refl
     go false b c d = refl
+
+-- ---- a free entry
+-- with count 0 a context is kept where all is zero
+pub kept_blank : (x : Bool) (count : ℕ) (l : List ℕ) (b : Bool) → b ≡ is_context_kept count l → (x && eqb count 0 && b) ≡ (x && eqb count 0 && all_zero l)
+unfolding is_context_kept
+kept_blank x count l b q = go (eqb count 0) refl
+  where
+    go : (e : Bool) → eqb count 0 ≡ e → (x && e && b) ≡ (x && e && all_zero l)
+    go true e = ap (λ (c : Bool). x && true && c) (q ∙ rw (eqb-true count 0 e))
+    go false e = rw (and-false x)
+
+-- so both ways to tell one come to the same
+pub free_is : (s : Subscription) (kept : Bool) → kept ≡ is_context_kept s.context_count s.context → free_by kept s ≡ is_free s
+unfolding is_free
+free_is s kept k =
+    let x = not s.used && not s.waiting && eqb s.connection 0 && eqb s.emitter 0 && eqb s.event 0 && eqb s.object 0 && eqb s.method 0 in
+    kept_blank x s.context_count s.context kept k
 
 -- ---- contexts
 pub kept_low : (count : ℕ) (l : List ℕ) → is_context_kept count l ≡ true → count ≤ 64
