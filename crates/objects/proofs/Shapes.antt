@@ -93,6 +93,23 @@ formed_are m count part h =
       fit = λ (z : eqb m reset_key_method ≡ true). rw z at f.1;
     }
 
+-- ---- a number that no method has
+module _ (m : ℕ) (n : (x : Method) → method_of x ≢ m) where
+  is_none : (x : Method) → eqb m (method_of x) ≡ false
+  is_none x = ne_eqb m (method_of x) (λ e. n x (sym e))
+
+  -- no object has it
+  pub unnamed_not : (t : ℕ) → false ≡ has_method t m
+  unfolding has_method is_telling is_locking is_muting is_subscribing
+  unnamed_not t =
+      rw (is_none method.Class, is_none method.Lockable, is_none method.Lock, is_none method.Unlock, is_none method.Get, is_none method.Set, is_none method.Add, is_none method.Remove, is_none method.ResetKey)
+
+  -- and it takes no parameter and no byte
+  pub unnamed_malformed : (count : ℕ) (part : List ℕ) (b : Bool) → b ≡ eqb (length part) 0 → (not (eqb count 0) || not b) ≡ is_malformed m count part
+  unfolding is_malformed is_length_bad is_pair_bad count_of length_of
+  unnamed_malformed count part b q =
+      rw (q, is_none method.Set, is_none method.Add, is_none method.Remove, is_none method.ResetKey) (sym (or-false _))
+
 -- ---- the first that applies of 5, 11, 8, 4
 module _ (t m count : ℕ) (part : List ℕ) where
   pub first_object : false ≡ is_object t → no_object ≡ first_status t m count part
@@ -101,10 +118,8 @@ module _ (t m count : ℕ) (part : List ℕ) where
 
   -- no method has that number
   pub first_unnamed : true ≡ is_object t → ((x : Method) → method_of x ≢ m) → no_method ≡ first_status t m count part
-  unfolding first_status has_method is_telling is_locking is_muting is_subscribing
-  first_unnamed o n =
-      let is : (x : Method) → eqb m (method_of x) ≡ false = λ (x : Method). ne_eqb m (method_of x) (λ e. n x (sym e)) in
-      rw (← o, is method.Class, is method.Lockable, is method.Lock, is method.Unlock, is method.Get, is method.Set, is method.Add, is method.Remove, is method.ResetKey)
+  unfolding first_status
+  first_unnamed o n = rw (← o, ← unnamed_not m n t)
 
   -- a status that a call handed up
   pub first_err : (r : Result Method Status) (s : Status) → IsErrAnd r (λ e. e ≡ s) → status_number s ≡ first_status t m count part → FirstStatus t m count part r

@@ -23,7 +23,7 @@ pub const FIRST_MUTE: u32 = 4097;
 
 pub const LAST_MUTE: u32 = 4104;
 
-// An event or a property is level x 65,536 + index.
+// A method, an event or a property is level x 65,536 + index.
 const LEVEL: u32 = 65536;
 
 /// Event 1.1, the only one that can be subscribed to, as one number.
@@ -120,7 +120,21 @@ impl TryFrom<(u16, u16)> for Method {
     }
 }
 
+/// A method as one number.
+pub fn method_number(level: u16, index: u16) -> u32
+    ensures { result ≡ method_number level index }
+{
+    u32::from(level) * LEVEL + u32::from(index)
+}
+
 impl Method {
+    // The method of a number, or status 11.
+    fn of(m: u32) -> Result<Method, Status>
+        ensures { Names m result }
+    {
+        Method::try_from(((m / LEVEL) as u16, (m % LEVEL) as u16))
+    }
+
     // How many parameters it takes.
     #[tactic(auto, unfolding(crate::specs::Tests::count_of))]
     fn count(self) -> u8
@@ -131,6 +145,38 @@ impl Method {
             Method::Remove | Method::ResetKey => 2,
             Method::Set => 1,
             Method::Class | Method::Lockable | Method::Lock | Method::Unlock | Method::Get => 0,
+        }
+    }
+
+    // Whether an object that there is has it.
+    #[tactic(auto, unfolding(crate::specs::Methods::has_method, crate::specs::Methods::is_telling, crate::specs::Methods::is_locking, crate::specs::Methods::is_muting, crate::specs::Methods::is_subscribing))]
+    fn belongs_to(self, target: u32) -> bool
+        ensures { result ≡ has_method target (method_of self) }
+    {
+        match self {
+            Method::Class | Method::Lockable | Method::Lock | Method::Unlock => true,
+            Method::Get | Method::Set => is_mute(target),
+            Method::Add | Method::Remove => target == SUBSCRIPTION_MANAGER,
+            Method::ResetKey => target == DEVICE_MANAGER,
+        }
+    }
+
+    // Status 4: wrong parameter count, length or last pair.
+    #[tactic(auto, using(crate::proofs::Shapes::count_bad, crate::proofs::Shapes::misfit_is, crate::proofs::Shapes::add_is, crate::proofs::Shapes::length_is), unfolding(crate::specs::Tests::length_of))]
+    fn is_malformed(self, count: u8, part: &[u8]) -> bool
+        ensures { result ≡ is_malformed (method_of self) count part.now }
+    {
+        if count != self.count() {
+            return true;
+        }
+        match self {
+            Method::Add => is_add_misfit(part),
+            Method::Remove => part.len() != REMOVE_BYTES,
+            Method::ResetKey => mechanism::is_misfit(part),
+            Method::Set => part.len() != 1,
+            Method::Class | Method::Lockable | Method::Lock | Method::Unlock | Method::Get => {
+                !part.is_empty()
+            }
         }
     }
 }
@@ -167,16 +213,13 @@ pub fn is_object(target: u32) -> bool
     is_manager(target) | is_mute(target)
 }
 
-// Of an object that there is.
-#[tactic(auto, unfolding(crate::specs::Methods::has_method, crate::specs::Methods::is_telling, crate::specs::Methods::is_locking, crate::specs::Methods::is_muting, crate::specs::Methods::is_subscribing))]
-fn has_method(target: u32, method: Method) -> bool
-    ensures { result ≡ has_method target (method_of method) }
+/// Whether an object that there is has the method of a number.
+pub fn has_method(target: u32, m: u32) -> bool
+    ensures { result ≡ has_method target m }
 {
-    match method {
-        Method::Class | Method::Lockable | Method::Lock | Method::Unlock => true,
-        Method::Get | Method::Set => is_mute(target),
-        Method::Add | Method::Remove => target == SUBSCRIPTION_MANAGER,
-        Method::ResetKey => target == DEVICE_MANAGER,
+    match Method::of(m) {
+        Ok(method) => method.belongs_to(target),
+        Err(_) => false,
     }
 }
 
@@ -225,22 +268,14 @@ pub fn is_add_bad(part: &[u8]) -> bool
     (part[MODE + n] != 1) | (frame::GREATEST_CONTEXT < n)
 }
 
-// Status 4: wrong parameter count, length or last pair.
-#[tactic(auto, using(crate::proofs::Shapes::count_bad, crate::proofs::Shapes::misfit_is, crate::proofs::Shapes::add_is, crate::proofs::Shapes::length_is), unfolding(crate::specs::Tests::length_of))]
-fn is_malformed(method: Method, count: u8, part: &[u8]) -> bool
-    ensures { result ≡ is_malformed (method_of method) count part.now }
+/// Status 4 for the arguments of the method of a number: wrong parameter count, length or last pair. A number that no method has
+/// takes none.
+pub fn is_malformed(m: u32, count: u8, part: &[u8]) -> bool
+    ensures { result ≡ is_malformed m count part.now }
 {
-    if count != method.count() {
-        return true;
-    }
-    match method {
-        Method::Add => is_add_misfit(part),
-        Method::Remove => part.len() != REMOVE_BYTES,
-        Method::ResetKey => mechanism::is_misfit(part),
-        Method::Set => part.len() != 1,
-        Method::Class | Method::Lockable | Method::Lock | Method::Unlock | Method::Get => {
-            !part.is_empty()
-        }
+    match Method::of(m) {
+        Ok(method) => method.is_malformed(count, part),
+        Err(_) => (count != 0) | !part.is_empty(),
     }
 }
 
@@ -260,13 +295,13 @@ pub fn first_status(
         return Err(Status::NoObject);
     }
     let method = Method::try_from((level, index))?;
-    if !has_method(target, method) {
+    if !method.belongs_to(target) {
         return Err(Status::NoMethod);
     }
     if is_forbidden(target, method) {
         return Err(Status::Forbidden);
     }
-    if is_malformed(method, count, part) {
+    if method.is_malformed(count, part) {
         return Err(Status::Malformed);
     }
     Ok(method)
