@@ -15,7 +15,6 @@ use Rattle.device.specs.Run.{done_of, answer_of, unchanged, run_of}
 use Rattle.device.specs.declared.Device.{Device}
 use Rattle.device.proofs.Commands.{ran_done, get_status, lock_other, lock_done, unlock_other, unlock_unheld, unlock_done, set_other, set_bad, set_same, set_changed, told_class, told_value}
 use Rattle.device.proofs.Shapes.{run_stopped, run_tell, mute_left, set_size, target_is, run_lock, run_unlock, run_get, run_set}
-use Rattle.command.specs.declared.channels.Channels.{Channels}
 use Rattle.command.specs.Acting.{Acted, channels, acted, with_channels, acted_in, Acts}
 
 -- ---- a mute
@@ -52,15 +51,16 @@ module _ (mutes holders : List ℕ) (n at : ℕ) (h : at < 8) (b : Bool) (q : b 
       pub set_done : not k ≡ false → (get_or mutes at 0 ≡ v → ⊥) → Acts (channels mutes holders) n (4097 + at) set_method 1 (v ∷ []) (acted (channels (set mutes at v) holders) (answer_with []) true)
       set_done f s = record { whole = λ d. set_changed (of d) n at h b q v t k p f s _ refl (answer_with []) refl }
 
--- a get is answered by the mute's value
-pub got : (c : Channels) (n at : ℕ) → at < 8 → Acts c n (4097 + at) get_method 0 [] (acted c (answer_with (get_or c.mutes at 0 ∷ [])) false)
+-- a get answers, and changes nothing
+got_is : (d : Device) (n at : ℕ) → at < 8 → unchanged d (answer_of d (4097 + at) get_method) ≡ run_of d n (4097 + at) get_method 0 []
 unfolding done_of
-got c n at h =
-    record {
-      whole = λ d.
-          told_value (with_channels d c) at _ refl
-          ∙ ran_done (with_channels d c) n (4097 + at) get_method 0 [] (get_status (with_channels d c) n at h);
-    }
+got_is d n at h = ran_done d n (4097 + at) get_method 0 [] (get_status d n at h)
+
+-- and is answered by the mute's value
+pub got : (mutes holders : List ℕ) (n at : ℕ) → at < 8 → Acts (channels mutes holders) n (4097 + at) get_method 0 [] (acted (channels mutes holders) (answer_with (get_or mutes at 0 ∷ [])) false)
+got mutes holders n at h =
+    let of : Device → Device = λ d. with_channels d (channels mutes holders) in
+    record { whole = λ d. told_value (of d) at _ refl ∙ got_is (of d) n at h }
 
 -- ---- a method that mutes alone have
 pub record Muting (m : ℕ) : Type 0 where
@@ -137,8 +137,10 @@ module _ (t m count : ℕ) (part : List ℕ) (z : first_status t m count part �
       pub ran_unlock : m ≡ unlock_method → (r : Acted) → Acts (channels d.mutes d.holders) n (4097 + at) unlock_method 0 [] r → acted_in d t r ≡ run_of d n t m count part
       ran_unlock e r a = run_unlock d n t m count part m refl _ refl z false w.telling refl w.add w.remove w.key at p e (acted_in d t r) (at_target r ∙ a.whole d)
 
-      pub ran_get : m ≡ get_method → unchanged d (answer_with (get_or d.mutes at 0 ∷ [])) ≡ run_of d n t m count part
-      ran_get e = run_get d n t m count part m refl _ refl z false w.telling refl w.add w.remove w.key at p e _ (told_value d at _ refl)
+      pub ran_get : m ≡ get_method → (r : Acted) → Acts (channels d.mutes d.holders) n (4097 + at) get_method 0 [] r → acted_in d t r ≡ run_of d n t m count part
+      ran_get e r a =
+          run_get d n t m count part m refl _ refl z false w.telling refl w.add w.remove w.key at p e (acted_in d t r)
+          (at_target r ∙ a.whole d ∙ sym (got_is d n at p.1))
 
       pub ran_set : m ≡ set_method → (r : Acted) → Acts (channels d.mutes d.holders) n (4097 + at) set_method 1 (get_or part 0 0 ∷ []) r → acted_in d t r ≡ run_of d n t m count part
       ran_set e r a =

@@ -15,6 +15,9 @@ use Rattle.subscription.specs.Setters.{with_context, without_context}
 use Rattle.subscription.specs.State.{free, is_twin, is_unused, twin_at, lowest_unused}
 use Rattle.subscription.specs.Arguments.{context_held, subscription_from, is_strange}
 use Rattle.subscription.specs.declared.Subscription.{Subscription}
+use Rattle.numbers.specs.Status.{status_number}
+use Rattle.numbers.specs.declared.Status.{Status}
+use Rattle.numbers.proofs.Tables.{failed_by}
 use Rattle.objects.specs.Methods.{add_method, remove_method, reset_key_method}
 use Rattle.objects.specs.Tests.{is_malformed, context_given, is_add_bad, first_status}
 use Rattle.objects.specs.Answers.{Carried, failed_of, answer_with}
@@ -23,7 +26,7 @@ use Rattle.device.specs.Setters.{with_subscriptions, with_mechanism}
 use Rattle.device.specs.Run.{unchanged, run_of}
 use Rattle.device.specs.declared.Device.{Device}
 use Rattle.device.proofs.Commands.{add_strange, add_bad, add_twin, add_full, add_done, remove_strange, remove_none, remove_done, arm_bad, arm_done}
-use Rattle.device.proofs.Shapes.{add_size, add_formed, remove_formed, arm_formed, run_add, run_remove, run_arm}
+use Rattle.device.proofs.Shapes.{add_size, add_formed, remove_formed, arm_formed, run_stopped, run_add, run_remove, run_arm}
 use Rattle.command.specs.Booking.{Slot, armed, slot_at, slot_for, slot_found, stored_in, Stores, Arms}
 
 -- ---- the slot
@@ -256,3 +259,13 @@ module _ (mechanism : Mechanism) (part : List ℕ) (f : is_malformed reset_key_m
           let w : next ≡ o.mechanism = cc in
           record { whole = λ d n. ap (λ (x : Mechanism). unchanged (with_mechanism d x) (answer_with [])) w ∙ arm_done (with_mechanism d mechanism) part f o q n (rw u) (answer_with []) refl }
       go o q false u e = cc
+
+-- of any object, with any count
+module _ (mechanism : Mechanism) (t count : ℕ) (part : List ℕ) where
+  pub arm_stopped : (s : Status) → status_number s ≡ first_status t reset_key_method count part → Arms mechanism t count part (armed mechanism (failed_of (status_number s)))
+  arm_stopped s e =
+      record { whole = λ d n. run_stopped (with_mechanism d mechanism) n t reset_key_method count part reset_key_method refl (status_number s) e (failed_by s) (failed_of (status_number s)) refl }
+
+  pub arm_asked : first_status t reset_key_method count part ≡ 0 → (next : Mechanism) (a : Carried) → Arms mechanism 1 2 part (armed next a) → Arms mechanism t count part (armed next a)
+  arm_asked z next a s =
+      record { whole = λ d n. run_arm (with_mechanism d mechanism) n t reset_key_method count part reset_key_method refl _ refl z refl (unchanged (with_mechanism d next) a) (s.whole d) }

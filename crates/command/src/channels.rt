@@ -17,13 +17,12 @@ pub struct Channels {
 
 impl Channels {
     /// What get tells of the mute at a place, whichever connection asks: its value.
-    #[tactic(auto, using(crate::proofs::Acts::got))]
     pub fn get(self, at: usize) -> Reply
         requires { at < 8 }
         ensures { (n : ℕ) → Acts self n (first_mute + at) get_method 0 []
             (acted self (answer_with (carried_bytes result)) false) }
     {
-        Reply::Byte(self.mutes[at])
+        get(&self.mutes, at)
     }
 
     /// The mute at a place is locked for connection `n`: status 3 where another holds it.
@@ -54,6 +53,16 @@ impl Channels {
         let answer = set(&mut self.mutes, &self.holders, n, at, v);
         (self, answer)
     }
+}
+
+// Whoever holds the lock.
+#[tactic(auto, using(crate::proofs::Acts::got))]
+pub(crate) fn get(mutes: &[u8; 8], at: usize) -> Reply
+    requires { at < 8 }
+    ensures { (holders : List ℕ) (n : ℕ) → Acts (channels mutes.now holders) n (first_mute + at) get_method 0 []
+        (acted (channels mutes.now holders) (answer_with (carried_bytes result)) false) }
+{
+    Reply::Byte(mutes[at])
 }
 
 #[tactic(auto, using(crate::proofs::Acts::lock_refused, crate::proofs::Acts::locked))]

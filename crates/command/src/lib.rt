@@ -17,14 +17,33 @@ use objects::{Class, Method, Reply};
 pub mod channels;
 pub mod slot;
 
-// 3.14, whichever connection it is: the mechanism is the device's.
+// 3.14 of the device manager: the mechanism is set in place.
 #[tactic(auto, using(device::proofs::Shapes::arm_fits, crate::proofs::Books::arm_untaken, crate::proofs::Books::arm_taken))]
-fn arm(mechanism: &mut Mechanism, part: &[u8]) -> Result<Reply, Status>
+fn set_key(mechanism: &mut Mechanism, part: &[u8]) -> Result<Reply, Status>
     requires { is_malformed reset_key_method 2 part.now ≡ false }
     ensures { Arms mechanism.old device_manager 2 part.now (armed mechanism.new (answer_in result)) }
 {
     *mechanism = mechanism::arming_of(part).ok_or(Status::BadValue)?;
     Ok(Reply::Done)
+}
+
+/// 3.14 of an object, whichever connection it is: the mechanism is the device's. Refused by the first status that applies.
+#[tactic(auto, using(crate::proofs::Books::arm_stopped, crate::proofs::Books::arm_asked, crate::proofs::Books::armed_formed))]
+pub fn arm(
+    mut mechanism: Mechanism,
+    target: u32,
+    count: u8,
+    part: &[u8],
+) -> (Mechanism, Result<Reply, Status>)
+    ensures { Arms mechanism target count part.now (armed result.0 (answer_in result.1)) }
+{
+    match objects::first_status(target, 3, 14, count, part) {
+        Ok(_) => {
+            let answer = set_key(&mut mechanism, part);
+            (mechanism, answer)
+        }
+        Err(status) => (mechanism, Err(status)),
+    }
 }
 
 /// The command of these fields from connection `n`; `part` is the message from the entry's parameters on. A command that is
@@ -40,8 +59,8 @@ pub fn run(device: &mut Device, n: u8, c: CommandFields, part: &[u8]) -> Result<
         Method::Unlock => channels::unlock(&mut device.holders, n, objects::place(c.target)),
         Method::Add => slot::subscribe(&mut device.subscriptions, n, part),
         Method::Remove => slot::unsubscribe(&mut device.subscriptions, n, part),
-        Method::ResetKey => arm(&mut device.mechanism, part),
-        Method::Get => Ok(Reply::Byte(device.mutes[objects::place(c.target)])),
+        Method::ResetKey => set_key(&mut device.mechanism, part),
+        Method::Get => Ok(channels::get(&device.mutes, objects::place(c.target))),
         Method::Set => {
             let at = objects::place(c.target);
             if channels::set(&mut device.mutes, &device.holders, n, at, part[0])? {

@@ -52,9 +52,9 @@ fn unused(entries: &[Subscription; 32]) -> Option<usize>
     entries.iter().position(|t| !t.used)
 }
 
-// The place of the same subscription, else the lowest free one.
+/// The place of the same subscription, else the lowest free one.
 #[tactic(auto, using(crate::proofs::Books::found_twin, crate::proofs::Books::found_room, crate::proofs::Books::found_none))]
-fn slot_for(entries: &[Subscription; 32], wanted: &Subscription) -> Option<usize>
+pub fn slot_for(entries: &[Subscription; 32], wanted: &Subscription) -> Option<usize>
     ensures found { slot_found entries.now result ≡ slot_for entries.now wanted.now }
     ensures low { IfSome result (λ place. place < 32) }
 {

@@ -41,8 +41,8 @@ unsubscribe-requires c =
     let e = c.in_ok-first_status.ensures in
     removed_formed _ _ _ _ e.1 (asked _ method.Remove e.0 c.in-Remove.is)
 
-pub arm-requires : goal.arm-requires
-arm-requires c =
+pub set_key-requires : goal.set_key-requires
+set_key-requires c =
     let e = c.in_ok-first_status.ensures in
     armed_formed _ _ _ _ e.1 (asked _ method.ResetKey e.0 c.in-ResetKey.is)
 
@@ -78,7 +78,7 @@ pub returns-in-Get : goal.returns-in-Get
 returns-in-Get c =
     let e = c.in_ok-first_status.ensures in
     let k = asked _ method.Get e.0 c.in-Get.is in
-    ran_get _ _ _ _ e.1 _ _ (get_muting _ k) _ c.place-in-Get.ensures k
+    ran_get _ _ _ _ e.1 _ _ (get_muting _ k) _ c.place-in-Get.ensures k _ (c.get.ensures c.args.device.now.holders c.args.n)
 
 pub returns-in-Add : goal.returns-in-Add
 returns-in-Add c =
@@ -93,7 +93,7 @@ returns-in-Remove c =
 pub returns-in-ResetKey : goal.returns-in-ResetKey
 returns-in-ResetKey c =
     let e = c.in_ok-first_status.ensures in
-    ran_arm _ _ _ _ e.1 c.args.device.now _ (asked _ method.ResetKey e.0 c.in-ResetKey.is) _ _ c.arm.ensures
+    ran_arm _ _ _ _ e.1 c.args.device.now _ (asked _ method.ResetKey e.0 c.in-ResetKey.is) _ _ c.set_key.ensures
 
 pub returns-in_err-set-in-Set : goal.returns-in_err-set-in-Set
 returns-in_err-set-in-Set c =
