@@ -40,9 +40,6 @@ const VALUE: usize = PROPERTY + 4;
 
 const CHANGE_TYPE: usize = VALUE + 1;
 
-// The status of a command that was carried out; what it fails with is a `Status`.
-const CARRIED_OUT: u8 = 0;
-
 /// One response from place `at` on, of these parameter bytes: the place behind it.
 #[tactic(auto, using(crate::proofs::Puts::response_stores))]
 pub fn put_response(
@@ -78,7 +75,7 @@ pub fn put_answer(out: &mut [u8], at: usize, handle: u32, answer: Result<Reply, 
             out,
             at,
             handle,
-            CARRIED_OUT,
+            numbers::CARRIED_OUT,
             reply.count(),
             reply.parameters(),
         ),
