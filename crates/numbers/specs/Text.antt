@@ -2,7 +2,8 @@
 use Rattle.std.specs.Prelude.{ℕ, List, ◌∷◌, ◌++◌}
 use Rattle.std.specs.Fmt.{decimal}
 use Rattle.numbers.specs.Fault.{fault_number}
-use Rattle.numbers.specs.Refusal.{bad_record, bad_area, no_connection, no_room, table_full, clock_back, fault, short, too_long, bad_entry, no_entry}
+use Rattle.numbers.specs.Refusal.{bad_record, bad_area, no_connection, no_room, table_full}
+use Rattle.numbers.specs.Refusal.{clock_back, fault, short, too_long, bad_entry, no_entry}
 use Rattle.numbers.specs.declared.Refusal.{Refusal}
 use Rattle.numbers.specs.declared.Refusal.TheVariants as refusal
 
