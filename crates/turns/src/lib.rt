@@ -149,7 +149,6 @@ pub fn list<R: Read, W: Write, E: Write>(reader: &mut R, writer: &mut W, errors:
 pub fn list_tape(tape: &[u8], most: usize, text: &mut [u8]) -> usize
     ensures { TapeListed tape.now text.new result }
 {
-    let most = if most == 0 { usize::MAX } else { most };
     let mut source = Tape { rest: tape, most };
     let mut page = Page { text, handed: 0 };
     let _ = list_from(&mut source, &mut page, &mut std::io::sink());

@@ -1,5 +1,7 @@
 //! Where the listing's bytes come from.
-ghost use Rattle.std.specs.Prelude.{◌≡◌, ◌++◌, ◌≤◌, ◌<◌, ℕ, List, Bool, true, false, Some, length};
+ghost use Rattle.std.proofs.lemmas.List.Edits.{sets};
+ghost use Rattle.std.specs.Prelude.{◌≡◌, ◌++◌, ◌≤◌, ◌<◌, ℕ, List, Bool, true, false, Some, length, take};
+ghost use Rattle.std.specs.Result.{result_unwrap_or};
 ghost use Rattle.std.specs.declared.option.Option.{Option};
 ghost use Rattle.turns.specs.Scaffold.{ReadsMore};
 ghost use Rattle.turns.specs.Turns.{FromTape};
@@ -40,13 +42,11 @@ impl<R: Read> Source for Through<'_, R> {
     }
 }
 
-/// Bytes in memory, of which a read takes at most so many.
+/// Bytes in memory, of which a read takes at most so many; 0: as many as there is room for.
 #[derive(Drop)]
 pub struct Tape<'a> {
     pub rest: &'a [u8],
     pub most: usize,
-
-    ghost some: { 0 < most },
 }
 
 impl<'a> Tape<'a> {
@@ -57,7 +57,8 @@ impl<'a> Tape<'a> {
         ensures rest { self.old.rest.now ≡ result.now ++ self.new.rest.now }
         ensures within { length result.now ≤ room }
     {
-        let n = self.rest.len().min(room).min(self.most);
+        let most = if self.most == 0 { room } else { self.most };
+        let n = self.rest.len().min(room).min(most);
         let (piece, rest) = self.rest.split_at(n);
         self.rest = rest;
         piece
@@ -71,7 +72,11 @@ impl Source for Tape<'_> {
 
     ghost name = { λ _. 0 };
 
-    fn read_more(&mut self, buf: &mut [u8], held: usize) -> io::Result<usize> {
+    fn read_more(&mut self, buf: &mut [u8], held: usize) -> io::Result<usize>
+        requires { held < length buf.old }
+        ensures reads { ReadsMore (Some self.old.rest.now) (Some self.new.rest.now) true held buf.old buf.new result }
+        ensures written { buf.new ≡ sets buf.old held (take (result_unwrap_or result 0) self.old.rest.now) }
+    {
         let piece = self.piece(buf.len() - held);
         buf[held..held + piece.len()].copy_from_slice(piece);
         Ok(piece.len())
