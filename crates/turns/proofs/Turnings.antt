@@ -103,6 +103,9 @@ module _ (l₀ l₁ : Option (List ℕ)) (sure : Bool) (x₀ x₁ : Option (List
   turned_full : IsErr u → IfSome m₀ (λ n. IfSome x₀ (λ t. n < length t + length (turn_text offset (take held i₀) came)))
   turned_full o = rw put_text at (on_err u o h.full)
 
+  turned_unsaid : IsErr u → IfSome m₀ (λ n. h.taken ≡ 0)
+  turned_unsaid o = on_err u o h.none
+
   turned_goes : (x : Held) → outcome ≡ Ok (Some x) → Goes offset (take held i₀) came i₂ x
   unfolding outcome
   turned_goes x e =
@@ -131,6 +134,7 @@ module _ (l₀ l₁ : Option (List ℕ)) (sure : Bool) (x₀ x₁ : Option (List
         told = λ s e. unread_failed c u p.over next unsaid e (q.told s);
         takes = rw (← put_text) h.takes;
         all = λ e. turned_all (all_fine c u p.over next e);
+        unsaid = λ e. turned_unsaid (unsaid_failed c u p.over next unread e);
         full = λ e. turned_full (unsaid_failed c u p.over next unread e);
         same = h.same;
       })

@@ -34,7 +34,7 @@ pub record ReadsMore {E : Type 0} (left left' : Option (List ℕ)) (sure : Bool)
   pub end : OnOk r (result_unwrap_or r 0 ≡ 0 → IsAtEnd left')
   pub told : sure ≡ true → IsOk r
 
--- s was handed over: its front alone where that failed. Where the room is known, there was none for all of it then.
+-- s was handed over: its front alone where that failed. Where the room is known, there was none for all of it then, and none was taken.
 pub record HandsOver {E : Type 0} (text text' : Option (List ℕ)) (room room' : Option ℕ) (s : List ℕ) (r : Result (Unit {0}) E)
     : Type 0 where
   pub taken : ℕ
@@ -42,4 +42,5 @@ pub record HandsOver {E : Type 0} (text text' : Option (List ℕ)) (room room' :
   pub takes : Appends text text' (take taken s)
   pub same : room' ≡ room
   pub all : OnOk r (taken ≡ length s)
+  pub none : OnErr r (IfSome room (λ n. taken ≡ 0))
   pub full : OnErr r (IfSome room (λ n. IfSome text (λ t. n < length t + length s)))

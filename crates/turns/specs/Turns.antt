@@ -51,5 +51,7 @@ pub record Turned (left left' : Option (List ℕ)) (sure : Bool) (text text' : O
   -- what was handed over
   pub takes : Appends text text' (take taken (turn_text offset held piece))
   pub all : IsOk r → taken ≡ length (turn_text offset held piece)
+  -- a text for which there is no room is not taken
+  pub unsaid : r ≡ Err Unsaid → IfSome room (λ n. taken ≡ 0)
   pub full : r ≡ Err Unsaid → IfSome room (λ n. IfSome text (λ t. n < length t + length (turn_text offset held piece)))
   pub same : room' ≡ room

@@ -16,7 +16,7 @@ pub trait Sink {
     // the reference that is written through
     ghost name: { Self → ℕ };
 
-    /// Takes all of `s`. On an error its front alone was taken, or none of it.
+    /// Takes all of `s`. On an error its front alone was taken, or none of it; where the room is known, none.
     fn hand_over(&mut self, s: &[u8]) -> io::Result<()>
         ensures hands { HandsOver (text self.old) (text self.new) (room self.old) (room self.new) s.now result }
         ensures same_reference { name self.new ≡ name self.old };
