@@ -16,12 +16,14 @@ const HEARTBEAT: [u8; 12] = [0x3B, 0, 1, 0, 0, 0, 0x0B, 4, 0, 1, 0, 2];
 // Class identification of 4097.
 const CLASS_OF_4097: [u8; 17] = [0, 0, 0, 0x11, 0, 0, 0, 7, 0, 0, 0x10, 0x01, 0, 1, 0, 1, 0];
 
-// A line that cannot be written is passed over.
+// Text, number and end are each tried, whatever became of those before.
 fn print_line<W: Write, T: Display + Drop>(to: &mut W, text: &str, answer: Option<T>) {
+    let _ = to.write_all(text.as_bytes());
     let _ = match answer {
-        Some(n) => writeln!(to, "{text}{n}"),
-        None => writeln!(to, "{text}{OTHER}"),
+        Some(n) => write!(to, "{n}"),
+        None => write!(to, "{OTHER}"),
     };
+    let _ = to.write_all(b"\n");
 }
 
 // Heartbeat 2 s on connection 0, then silence up to a reading: the tick's mask.

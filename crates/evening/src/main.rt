@@ -20,10 +20,10 @@ const SUBSCRIBE: [u8; 52] = [
 const HALF_MESSAGE: [u8; 13] = [0x3B, 0, 1, 0, 0, 0, 0x1A, 1, 0, 1, 0, 0, 0];
 
 fn lock<W: Write>(hall: &mut Hall<'_, W>, n: u8) {
-    hall.command(n, &LOCK, "asks for the lock of channel 5");
+    hall.command(n, &LOCK, b" asks for the lock of channel 5");
 }
 
-fn set<W: Write>(hall: &mut Hall<'_, W>, n: u8, value: u8, deed: &str) {
+fn set<W: Write>(hall: &mut Hall<'_, W>, n: u8, value: u8, deed: &[u8]) {
     let piece = [
         0x3Bu8, 0, 1, 0, 0, 0, 0x1B, 1, 0, 1, 0, 0, 0, 0x12, 0, 0, 0, 8, 0, 0, 0x10, 0x05, 0, 4, 0,
         2, 1, value,
@@ -33,16 +33,16 @@ fn set<W: Write>(hall: &mut Hall<'_, W>, n: u8, value: u8, deed: &str) {
 
 // Tablet 0 locks channel 5, mutes it and dies.
 fn first_part<W: Write>(hall: &mut Hall<'_, W>) {
-    hall.open("tablet 0");
-    hall.open("tablet 1");
-    hall.open("the panel");
+    hall.open(b"tablet 0");
+    hall.open(b"tablet 1");
+    hall.open(b"the panel");
     hall.heartbeat(TABLET_0);
     lock(hall, TABLET_0);
-    hall.command(PANEL, &SUBSCRIBE, "subscribes to channel 5");
-    set(hall, TABLET_0, objects::MUTED, "mutes channel 5");
+    hall.command(PANEL, &SUBSCRIBE, b" subscribes to channel 5");
+    set(hall, TABLET_0, objects::MUTED, b" mutes channel 5");
     hall.take();
     lock(hall, TABLET_1);
-    hall.command(TABLET_0, &HALF_MESSAGE, "sends half a message and dies");
+    hall.command(TABLET_0, &HALF_MESSAGE, b" sends half a message and dies");
 }
 
 // Its connection is closed, and tablet 1 takes over.
@@ -51,10 +51,10 @@ fn second_part<W: Write>(hall: &mut Hall<'_, W>) {
     lock(hall, TABLET_1);
     hall.tick(90000);
     lock(hall, TABLET_1);
-    set(hall, TABLET_1, objects::UNMUTED, "unmutes channel 5");
+    set(hall, TABLET_1, objects::UNMUTED, b" unmutes channel 5");
     hall.take();
-    hall.command(PANEL, &[0], "sends a faulty byte");
-    hall.open("a new controller");
+    hall.command(PANEL, &[0], b" sends a faulty byte");
+    hall.open(b"a new controller");
     hall.close(TABLET_1);
 }
 

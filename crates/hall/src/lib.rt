@@ -3,7 +3,7 @@
 
 use answers::{Delivery, Taking};
 use endpoint::Record;
-use std::fmt;
+use std::fmt::Display;
 use std::io::Write;
 
 // The connections, by who speaks on them.
@@ -27,20 +27,7 @@ const NO_BYTE: u8 = 255;
 // A heartbeat of 30 s.
 const HEARTBEAT: [u8; 12] = [0x3B, 0, 1, 0, 0, 0, 0x0B, 4, 0, 1, 0, 30];
 
-// Who speaks on a connection.
-#[derive(Clone, Copy)]
-struct Who(u8);
-
-impl fmt::Display for Who {
-    fn fmt<W: fmt::Write>(&self, f: &mut fmt::Formatter<W>) -> fmt::Result {
-        match self.0 {
-            PANEL => write!(f, "the panel"),
-            n => write!(f, "tablet {n}"),
-        }
-    }
-}
-
-/// The device of a hall, what its host lends to the calls, and where they are told. A line that cannot be written is passed over.
+/// The device of a hall, what its host lends to the calls, and where they are told. What cannot be written is passed over.
 #[derive(Drop)]
 pub struct Hall<'a, W> {
     pub to: &'a mut W,
@@ -49,19 +36,45 @@ pub struct Hall<'a, W> {
     pub output: &'a mut [u8],
 }
 
+// A text and a number are each tried, whatever became of those before.
 impl<W: Write> Hall<'_, W> {
-    pub fn clear(&mut self) {
-        let _ = match endpoint::clear_area(self.area) {
-            Ok(()) => writeln!(self.to, "the area is cleared: done"),
-            Err(_) => writeln!(self.to, "the area is cleared: refused"),
-        };
+    fn say(&mut self, text: &[u8]) {
+        let _ = self.to.write_all(text);
     }
 
-    pub fn open(&mut self, who: &str) {
-        let _ = match self.record.try_open() {
-            Ok(n) => writeln!(self.to, "{who} connects: connection {n}"),
-            Err(_) => writeln!(self.to, "{who} connects: refused"),
-        };
+    fn say_number<T: Display + Drop>(&mut self, text: &[u8], n: T) {
+        self.say(text);
+        let _ = write!(self.to, "{n}");
+    }
+
+    fn end_line<T: Display + Drop>(&mut self, text: &[u8], n: T) {
+        self.say_number(text, n);
+        self.say(b"\n");
+    }
+
+    // Who speaks on a connection, and what is done.
+    fn say_who(&mut self, n: u8, deed: &[u8]) {
+        match n {
+            PANEL => self.say(b"the panel"),
+            _ => self.say_number(b"tablet ", n),
+        }
+        self.say(deed);
+    }
+
+    pub fn clear(&mut self) {
+        match endpoint::clear_area(self.area) {
+            Ok(()) => self.say(b"the area is cleared: done\n"),
+            Err(_) => self.say(b"the area is cleared: refused\n"),
+        }
+    }
+
+    pub fn open(&mut self, who: &[u8]) {
+        let opened = self.record.try_open();
+        self.say(who);
+        match opened {
+            Ok(n) => self.end_line(b" connects: connection ", n),
+            Err(_) => self.say(b" connects: refused\n"),
+        }
     }
 
     fn byte_at(&self, at: usize) -> u8 {
@@ -69,56 +82,59 @@ impl<W: Write> Hall<'_, W> {
     }
 
     // A piece is delivered; of a reply, the byte at a place is told behind its name.
-    fn hear(&mut self, n: u8, piece: &[u8], at: usize, name: &str) {
-        let _ = match self.record.try_deliver(self.area, n, piece, self.output) {
-            Ok(Delivery::More(taken)) => writeln!(self.to, ": more needed, bytes taken {taken}"),
-            Ok(Delivery::Message(_, 0)) => writeln!(self.to, ": no reply"),
+    fn hear(&mut self, n: u8, piece: &[u8], at: usize, name: &[u8]) {
+        match self.record.try_deliver(self.area, n, piece, self.output) {
+            Ok(Delivery::More(taken)) => self.end_line(b": more needed, bytes taken ", taken),
+            Ok(Delivery::Message(_, 0)) => self.say(b": no reply\n"),
             Ok(Delivery::Message(_, _)) => {
                 let byte = self.byte_at(at);
-                writeln!(self.to, ": {name} {byte}")
+                self.end_line(name, byte);
             }
-            Ok(Delivery::Closed(_, fault)) => writeln!(self.to, ": closed, fault {fault}"),
-            Err(_) => writeln!(self.to, ": refused"),
-        };
+            Ok(Delivery::Closed(_, fault)) => self.end_line(b": closed, fault ", fault),
+            Err(_) => self.say(b": refused\n"),
+        }
     }
 
     /// A command wanting reply: its status is told.
-    pub fn command(&mut self, n: u8, piece: &[u8], deed: &str) {
-        let _ = write!(self.to, "{} {deed}", Who(n));
-        self.hear(n, piece, STATUS_AT, "status");
+    pub fn command(&mut self, n: u8, piece: &[u8], deed: &[u8]) {
+        self.say_who(n, deed);
+        self.hear(n, piece, STATUS_AT, b": status ");
     }
 
     pub fn heartbeat(&mut self, n: u8) {
-        let _ = write!(self.to, "{} sets its heartbeat", Who(n));
-        self.hear(n, &HEARTBEAT, SECONDS_AT, "answered, seconds");
+        self.say_who(n, b" sets its heartbeat");
+        self.hear(n, &HEARTBEAT, SECONDS_AT, b": answered, seconds ");
     }
 
     pub fn take(&mut self) {
-        let _ = match self.record.try_take(self.output) {
+        match self.record.try_take(self.output) {
             Ok(Taking::Notification(n, length)) => {
                 let value = self.byte_at(VALUE_AT);
-                writeln!(
-                    self.to,
-                    "take: notification to connection {n}, bytes {length}, value {value}"
-                )
+                self.say_number(b"take: notification to connection ", n);
+                self.say_number(b", bytes ", length);
+                self.end_line(b", value ", value);
             }
-            Ok(Taking::KeepAlive(n, _)) => writeln!(self.to, "take: keep-alive to connection {n}"),
-            Ok(Taking::Nothing) => writeln!(self.to, "take: nothing"),
-            Err(_) => writeln!(self.to, "take: refused"),
-        };
+            Ok(Taking::KeepAlive(n, _)) => self.end_line(b"take: keep-alive to connection ", n),
+            Ok(Taking::Nothing) => self.say(b"take: nothing\n"),
+            Err(_) => self.say(b"take: refused\n"),
+        }
     }
 
     pub fn tick(&mut self, reading: u32) {
-        let _ = match self.record.try_tick(self.area, reading) {
-            Ok(mask) => writeln!(self.to, "tick at {reading} ms: closed mask {mask}"),
-            Err(_) => writeln!(self.to, "tick at {reading} ms: refused"),
-        };
+        let ticked = self.record.try_tick(self.area, reading);
+        self.say_number(b"tick at ", reading);
+        match ticked {
+            Ok(mask) => self.end_line(b" ms: closed mask ", mask),
+            Err(_) => self.say(b" ms: refused\n"),
+        }
     }
 
     pub fn close(&mut self, n: u8) {
-        let _ = match self.record.try_close(self.area, n) {
-            Ok(()) => writeln!(self.to, "the host closes connection {n}: done"),
-            Err(_) => writeln!(self.to, "the host closes connection {n}: refused"),
-        };
+        let closed = self.record.try_close(self.area, n);
+        self.say_number(b"the host closes connection ", n);
+        match closed {
+            Ok(()) => self.say(b": done\n"),
+            Err(_) => self.say(b": refused\n"),
+        }
     }
 }
