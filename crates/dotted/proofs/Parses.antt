@@ -1,10 +1,10 @@
 -- The library's reader of addresses takes the texts that are sound.
 use Rattle.std.proofs.Common.{◌≡◌, ◌∙◌, sym, subst, refl, ℕ, ◌<◌, Bool, true, false, List, [], ◌∷◌, append_assoc, arith, Some, None, zero, suc, ◌&&◌, ◌⊎◌, inl, inr}
-use Rattle.std.specs.Prelude.{decimal, bytes_eq}
+use Rattle.std.specs.Prelude.{decimal, bytes_eq, Result, Err}
 use Rattle.std.specs.Fmt.{digits}
 use Rattle.std.proofs.lemmas.Bool.{cases_lt}
 use Rattle.std.proofs.lemmas.Slice.Eq.{bytes_eq-Decides}
-use Rattle.std.specs.Net.Grammar.{IsDotted}
+use Rattle.std.specs.Net.Grammar.{IsDotted, IsIpv4Text, Parses}
 use Rattle.std.specs.Net.Text.{dotted_text}
 use Rattle.std.specs.declared.net.ipv4_addr.Ipv4Addr.{Ipv4Addr}
 use Rattle.laws.specs.Decimal.{decimal_of, decimal_within}
@@ -65,3 +65,6 @@ untaken t n = go (dotted_of t).sound refl
     go : (b : Bool) → (dotted_of t).sound ≡ b → address_in (dotted_of t) ≡ None
     go true e = absurd (n (record { octets = (dotted_of t).address }) (dotted_from t (dotted_of t).address (dotted_exact.only t e)))
     go false e = rw e refl
+
+pub unparsed : {E : Type 0} (t : List ℕ) (r : Result Ipv4Addr E) (e : E) → r ≡ Err e → Parses IsIpv4Text t r → address_in (dotted_of t) ≡ None
+unparsed {E} t r e q p = untaken t (subst (λ (r : Result Ipv4Addr E). Parses IsIpv4Text t r) q p)

@@ -9,7 +9,7 @@ ghost use Rattle.dotted.specs.Table.{TextsTold};
 use std::net::Ipv4Addr;
 
 /// The four numbers of the address that a text says, in its order, or `None` where the text is no address's.
-#[tactic(auto, using(crate::proofs::Parses::taken, crate::proofs::Parses::untaken))]
+#[tactic(auto, using(crate::proofs::Parses::taken, crate::proofs::Parses::unparsed))]
 pub fn read(text: &[u8]) -> Option<[u8; 4]>
     ensures { result ≡ address_in (dotted_of text.now) }
 {
