@@ -63,6 +63,18 @@ module _ (part : List ℕ) (f : is_misfit part ≡ false) where
           let v : address_of (text_in part) ≡ address = cc in rw (w, e, q, v)
       go false e n z q = cc
 
+  -- what the port and the text decide, with no name for either
+  pub portless : be16_at part (length part - 2) ≡ 0 → None ≡ mechanism_in (arming_of part)
+  unfolding arming_of is_untaken
+  portless z =
+      let w : port_in part ≡ 0 = sym port_is ∙ z in
+      let b : (not (is_text_taken (text_in part)) || true) ≡ true = grind arith in
+      rw (w, b)
+
+  pub armed : is_text_taken (take (length part - 2 - 18) (drop 18 part)) ≡ true → (be16_at part (length part - 2) ≡ 0 → ⊥)
+      → mechanism_in (arming_of part) ≡ Some (record { armed = true; key = key_in part; address = address_of (take (length part - 2 - 18) (drop 18 part)); port = be16_at part (length part - 2) })
+  armed t n = arms (address_of (take (length part - 2 - 18) (drop 18 part))) (be16_at part (length part - 2)) (rw t) refl ∙ rw (ne_eqb (be16_at part (length part - 2)) 0 n)
+
 -- ---- the rules
 module _ (m : Mechanism) (none : Bool) (en : none ≡ all_zero m.address) where
   pub armed_obeys : m.armed ≡ true → (multicast : Bool) → multicast ≡ is_multicast m.address → ((none || multicast) && not (eqb m.port 0)) ≡ mechanism_obeys m

@@ -82,7 +82,7 @@ fn address_taken(text: &[u8]) -> Option<[u8; 4]>
 }
 
 /// The mechanism that the arguments of 3.14 arm, or `None` where the text or the port is not taken.
-#[tactic(auto, using(crate::proofs::Laws::fitting))]
+#[tactic(auto, using(crate::proofs::Laws::fitting, crate::proofs::Laws::text_untaken, crate::proofs::Laws::portless, crate::proofs::Laws::armed))]
 pub fn arming_of(part: &[u8]) -> Option<Mechanism>
     requires { is_misfit part.now ≡ false }
     ensures { result ≡ mechanism_in (arming_of part.now) }
