@@ -69,7 +69,7 @@ fn sent(device: &mut Device, n: u8)
 }
 
 // Runs count commands; those of type 1 get a reply, whose head stands before the responses.
-#[tactic(auto, using(crate::proofs::Replies::commands_silent, crate::proofs::Replies::commands_told, crate::proofs::Replies::room, crate::proofs::Replies::reply_stores))]
+#[tactic(auto, using(crate::proofs::Replies::commands_silent, crate::proofs::Replies::commands_told, crate::proofs::Replies::front_none, crate::proofs::Replies::room, crate::proofs::Replies::reply_stores))]
 fn commands(device: &mut Device, n: u8, kind: u8, count: u16, body: &[u8], out: &mut [u8]) -> usize
     requires { (n < 8) × (kind < 2) × (entries_fill count kind body.now ≡ true) × (10 + count * 22 ≤ length out.old)
         × (count ≤ 119) }

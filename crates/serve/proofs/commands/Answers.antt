@@ -1,12 +1,6 @@
-use Rattle.std.proofs.Common.{◌≢◌, arith, refl, sym, ◌∙◌}
-use Rattle.serve.proofs.Replies.{commands_silent, commands_replied, front_none}
+use Rattle.std.proofs.Common.{◌≢◌, arith}
+use Rattle.serve.proofs.Replies.{commands_replied}
 use Rattle.serve.proofs.commands.Goals as goal
-
-pub returns-in-0 : goal.returns-in-0
-returns-in-0 c =
-    let a = c.args in
-    let s = c.serve-end.ensures in
-    rw (commands_silent a.device.now a.n a.kind a.count a.body.now c.in-0.is) (s.0, refl, (rw c.in-0.is at s.2) ∙ sym (front_none a.out.now))
 
 pub returns-in_default : goal.returns-in_default
 returns-in_default c =
