@@ -6,7 +6,6 @@ use mathlib.Core.Bool.{Bool, cond, true, false, not, ◌&&◌, ◌||◌, and-tru
 use mathlib.Core.List.{List, [], ◌∷◌, ◌++◌, map}
 use native.Mathlib.Omega.{arith}
 use lib.Dec.{eqb, ltb}
-use Rattle.numbers.specs.Fault.{fault_number}
 use lib.ListN.{length, get_or, set, get_or-map, get_or-eq_default}
 use lib.Seq.{get_or-set_same}
 use borrow.Author.Tests.{eqb-true, eqb-false, eq-eqb, ne_eqb, not-true, ltb-true, ltb-false}
@@ -464,7 +463,7 @@ pub closure_leaves_nothing : ClosureLeavesNothing
 closure_leaves_nothing =
     record {
       by_host = λ r area n w p. closed_by_lem r area w n (close_call r area n) (host r area w n p);
-      by_fault = λ r area n piece out taken f w p. closed_by_lem r area w n (deliver_call r area n piece out) (fault r area w n piece out taken (fault_number f) p);
+      by_fault = λ r area n piece out taken number w p. closed_by_lem r area w n (deliver_call r area n piece out) (fault r area w n piece out taken number p);
       by_tick = λ r area reading mask w. closed_by_tick r area w.kept reading mask w.answer;
       reopened = λ r area n w. new r area w.kept n w.answer;
       open_others = λ r area n w. open_others_lem r area w.kept n w.answer;

@@ -1,14 +1,14 @@
 -- R56, R58 to R60. Exactly the connections named are closed: nothing of them is left, nothing else touched; a reused number is new.
-use Rattle.std.specs.Prelude.{ℕ, ◌-◌, ◌^◌, ◌<◌, ◌≡◌, Bool, true, false, cond, not, ◌&&◌, List, map, eqb, get_or, take, drop}
+use Rattle.std.specs.Prelude.{ℕ, ◌-◌, ◌^◌, ◌<◌, ◌≡◌, Bool, true, false, cond, not, ◌&&◌, List, [], ◌∷◌, map, eqb, get_or, take, drop}
 use Rattle.octets.specs.Zeros.{zeros}
 use Rattle.area.specs.Area.{part_bytes, part_at}
 use Rattle.connection.specs.State.{closed, opened, live_at}
 use Rattle.subscription.specs.State.{free}
 use Rattle.subscription.specs.declared.Subscription.{Subscription}
 use Rattle.device.specs.Closure.{locks_of, subscriptions_of, no_locks, no_entries, Gone, Stays}
-use Rattle.numbers.specs.declared.Fault.{Fault}
-use Rattle.answers.specs.Numbers.{opening_numbers, closing_numbers, ticking_numbers, delivery_numbers}
-use Rattle.answers.specs.declared.Delivery.TheVariants as deliveries
+use Rattle.numbers.specs.Refusal.{not_refused}
+use Rattle.numbers.specs.Kind.{kind_closed}
+use Rattle.answers.specs.Numbers.{opening_numbers, closing_numbers, ticking_numbers}
 use Rattle.endpoint.specs.Outcome.{Outcome}
 use Rattle.endpoint.specs.Calls.{open_call, close_call, tick_call}
 use Rattle.endpoint.specs.Deliver.{held_at, deliver_call}
@@ -95,9 +95,9 @@ pub record ClosureLeavesNothing : Type 0 where
   -- the host's close
   pub by_host : (r : Record) (area : List ℕ) (n : ℕ) → Kept r area → (close_call r area n).answer ≡ closing_numbers tt
       → ClosedAlone n r area (close_call r area n)
-  -- a fault in the bytes delivered
-  pub by_fault : (r : Record) (area : List ℕ) (n : ℕ) (piece out : List ℕ) (taken : ℕ) (fault : Fault) → Kept r area
-      → (deliver_call r area n piece out).answer ≡ delivery_numbers (deliveries.Closed taken fault)
+  -- a fault in the bytes delivered, whatever its number
+  pub by_fault : (r : Record) (area : List ℕ) (n : ℕ) (piece out : List ℕ) (taken fault : ℕ) → Kept r area
+      → (deliver_call r area n piece out).answer ≡ not_refused ∷ kind_closed ∷ taken ∷ fault ∷ []
       → ClosedAlone n r area (deliver_call r area n piece out)
   -- a tick
   pub by_tick : (r : Record) (area : List ℕ) (reading mask : ℕ) → TickTold r area reading mask
