@@ -4,7 +4,8 @@
 ghost use Rattle.std.specs.Prelude.{◌≡◌};
 ghost use Rattle.answers.specs.Numbers.{numbers_of, answer_numbers, delivery_numbers, taking_numbers};
 ghost use Rattle.melorwyth.specs.Answers.{fault_in, length_in};
-ghost use Rattle.melorwyth.specs.Promises.{VersionHands, FreshHands, ClearHands, HandedTell};
+ghost use Rattle.melorwyth.specs.Promises.{VersionHands, FreshHands, ClearHands, OpenHands, CloseHands, TickHands, DeliverHands};
+ghost use Rattle.melorwyth.specs.Promises.{TakeHands, DatagramHands, HandedTell};
 ghost use Rattle.melorwyth.specs.Told.{NumbersTold};
 
 use answers::{Delivery, Taking};
@@ -144,6 +145,104 @@ pub fn melorwyth_clear(area: &mut [u8]) -> Cleared
     let told = answers::numbers_told(endpoint::clear_area(area));
     Cleared {
         number: told.number,
+    }
+}
+
+/// A connection is opened: its number.
+#[tactic(auto, using(crate::proofs::Tellings::told), unfolding(crate::specs::Answers::opened_of))]
+pub fn melorwyth_open(mut state: Record) -> Opened
+    ensures { OpenHands state result }
+{
+    let answer = state.try_open();
+    let told = answers::numbers_told(answer);
+    Opened {
+        state,
+        number: told.number,
+        connection: told.first,
+    }
+}
+
+/// The host's close of connection `n`.
+#[tactic(auto, using(crate::proofs::Tellings::told, crate::proofs::Tellings::area_told), unfolding(crate::specs::Answers::closed_of))]
+pub fn melorwyth_close(mut state: Record, area: &mut [u8], n: u8) -> Closed
+    ensures { CloseHands state area.old n result area.new }
+{
+    let answer = state.try_close(area, n);
+    let told = answers::numbers_told(answer);
+    Closed {
+        state,
+        number: told.number,
+    }
+}
+
+/// Time passes, to a reading in milliseconds: the connections closed, a bit each.
+#[tactic(auto, using(crate::proofs::Tellings::told, crate::proofs::Tellings::area_told), unfolding(crate::specs::Answers::ticked_of))]
+pub fn melorwyth_tick(mut state: Record, area: &mut [u8], reading: u32) -> Ticked
+    ensures { TickHands state area.old reading result area.new }
+{
+    let answer = state.try_tick(area, reading);
+    let told = answers::numbers_told(answer);
+    Ticked {
+        state,
+        number: told.number,
+        closed: told.first,
+    }
+}
+
+/// A piece of connection `n`'s bytes is delivered.
+#[tactic(auto, using(crate::proofs::Tellings::told, crate::proofs::Tellings::area_told, crate::proofs::Tellings::output_told), unfolding(crate::specs::Answers::delivered_of))]
+pub fn melorwyth_deliver(
+    mut state: Record,
+    area: &mut [u8],
+    n: u8,
+    piece: &[u8],
+    output: &mut [u8],
+) -> Delivered
+    ensures { DeliverHands state area.old n piece.now output.old result
+        area.new output.new }
+{
+    let answer = state.try_deliver(area, n, piece, output);
+    let told = answers::numbers_told(answer);
+    let fault = fault_of(answer);
+    let length = length_of(answer);
+    Delivered {
+        state,
+        number: told.number,
+        kind: told.first,
+        fault,
+        taken: told.second,
+        length,
+    }
+}
+
+/// One message that waits is taken.
+#[tactic(auto, using(crate::proofs::Tellings::told, crate::proofs::Tellings::output_told), unfolding(crate::specs::Answers::taken_of))]
+pub fn melorwyth_take(mut state: Record, output: &mut [u8]) -> Taken
+    ensures { TakeHands state output.old result output.new }
+{
+    let answer = state.try_take(output);
+    let told = answers::numbers_told(answer);
+    let connection = connection_of(answer);
+    Taken {
+        state,
+        number: told.number,
+        kind: told.first,
+        connection,
+        length: told.third,
+    }
+}
+
+/// A datagram came on the reset mechanism's port.
+#[tactic(auto, using(crate::proofs::Tellings::told, crate::proofs::Tellings::area_told), unfolding(crate::specs::Answers::reset_of))]
+pub fn melorwyth_datagram(mut state: Record, area: &mut [u8], datagram: &[u8]) -> Reset
+    ensures { DatagramHands state area.old datagram.now result area.new }
+{
+    let answer = reset::try_datagram(&mut state, area, datagram);
+    let told = answers::numbers_told(answer);
+    Reset {
+        state,
+        number: told.number,
+        reset: told.first,
     }
 }
 
