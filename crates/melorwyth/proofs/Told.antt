@@ -95,5 +95,7 @@ numbers_told =
       read = read_told;
       entry = entry_told;
       written = written_told;
+      closed_for = λ taken number. unfold is_told in refl;
+      faulty = λ number. unfold is_told in refl;
       seven = λ rest. unfold is_told in refl;
     }

@@ -1,7 +1,8 @@
 -- R63, R66. The numbers that a host is told: 0, and those of the table of refusals.
 use Rattle.std.specs.Prelude.{ℕ, ◌≡◌, Bool, true, false, List, [], ◌∷◌, eqb, Result}
 use Rattle.laws.specs.Lists.{any}
-use Rattle.numbers.specs.Refusal.{not_refused, refusals}
+use Rattle.numbers.specs.Refusal.{not_refused, fault, refusals}
+use Rattle.numbers.specs.Kind.{kind_closed}
 use Rattle.numbers.specs.declared.Refusal.{Refusal}
 use Rattle.answers.specs.Numbers.{clearing_numbers, opening_numbers, closing_numbers, ticking_numbers}
 use Rattle.answers.specs.Numbers.{delivery_numbers, taking_numbers, resetting_numbers, answer_numbers}
@@ -30,4 +31,7 @@ pub record NumbersTold : Type 0 where
   pub read : (a : Result Reading Refusal) → is_told (reading_numbers a) ≡ true
   pub entry : (a : Result Entry Refusal) → is_told (entry_numbers a) ≡ true
   pub written : (a : Result ℕ Refusal) → is_told (written_numbers a) ≡ true
+  -- whatever number a fault has, of a closure and of a refusal
+  pub closed_for : (taken number : ℕ) → is_told (not_refused ∷ kind_closed ∷ taken ∷ number ∷ []) ≡ true
+  pub faulty : (number : ℕ) → is_told (fault ∷ number ∷ []) ≡ true
   pub seven : (rest : List ℕ) → is_told (7 ∷ rest) ≡ false
