@@ -11,9 +11,6 @@ use answers::{Delivery, numbers_told};
 use endpoint::Record;
 use numbers::Refusal;
 
-// The kind of a delivery that carried a message out.
-const MESSAGE: u8 = 2;
-
 /// What feeding a piece comes to.
 #[derive(Clone, Copy)]
 pub struct Fed {
@@ -31,7 +28,7 @@ fn is_message(answer: Result<Delivery, Refusal>) -> bool
     ensures { result ≡ is_message (answer_numbers delivery_numbers answer) }
 {
     let told = numbers_told(answer);
-    told.first == MESSAGE
+    told.first == numbers::KIND_MESSAGE
 }
 
 #[tactic(auto, using(crate::proofs::Feedings::told_length, crate::proofs::Feedings::told_none))]
