@@ -1,4 +1,5 @@
-//! What C is handed: the structs of every call, and the calls that are lent no record.
+//! What C is handed: every call with numbers and structs in place of enums and results. A call that is passed the record is one
+//! line over a call that changes it in place, which the archive makes: handed on by value the record would be copied once more.
 #![tactic(auto)]
 
 ghost use Rattle.std.specs.Prelude.{◌≡◌};
@@ -148,49 +149,99 @@ pub fn melorwyth_clear(area: &mut [u8]) -> Cleared
     }
 }
 
-/// A connection is opened: its number.
+/// A connection is opened, in the record where it stands: its number.
 #[tactic(auto, using(crate::proofs::Tellings::told), unfolding(crate::specs::Answers::opened_of))]
-pub fn melorwyth_open(mut state: Record) -> Opened
-    ensures { OpenHands state result }
+pub fn open_in_place(state: &mut Record) -> Opened
+    ensures handed { OpenHands state.old result }
+    ensures left { state.new ≡ result.state }
 {
     let answer = state.try_open();
     let told = answers::numbers_told(answer);
     Opened {
-        state,
+        state: *state,
         number: told.number,
         connection: told.first,
     }
 }
 
-/// The host's close of connection `n`.
+/// `open_in_place` of a record that is passed and handed back.
+pub fn melorwyth_open(mut state: Record) -> Opened
+    ensures { OpenHands state result }
+{
+    open_in_place(&mut state)
+}
+
+/// The host's close of connection `n`, in the record where it stands.
 #[tactic(auto, using(crate::proofs::Tellings::told, crate::proofs::Tellings::area_told), unfolding(crate::specs::Answers::closed_of))]
-pub fn melorwyth_close(mut state: Record, area: &mut [u8], n: u8) -> Closed
-    ensures { CloseHands state area.old n result area.new }
+pub fn close_in_place(state: &mut Record, area: &mut [u8], n: u8) -> Closed
+    ensures handed { CloseHands state.old area.old n result area.new }
+    ensures left { state.new ≡ result.state }
 {
     let answer = state.try_close(area, n);
     let told = answers::numbers_told(answer);
     Closed {
-        state,
+        state: *state,
         number: told.number,
     }
 }
 
-/// Time passes, to a reading in milliseconds: the connections closed, a bit each.
+/// `close_in_place` of a record that is passed and handed back.
+pub fn melorwyth_close(mut state: Record, area: &mut [u8], n: u8) -> Closed
+    ensures { CloseHands state area.old n result area.new }
+{
+    close_in_place(&mut state, area, n)
+}
+
+/// Time passes, to a reading in milliseconds, in the record where it stands: the connections closed, a bit each.
 #[tactic(auto, using(crate::proofs::Tellings::told, crate::proofs::Tellings::area_told), unfolding(crate::specs::Answers::ticked_of))]
-pub fn melorwyth_tick(mut state: Record, area: &mut [u8], reading: u32) -> Ticked
-    ensures { TickHands state area.old reading result area.new }
+pub fn tick_in_place(state: &mut Record, area: &mut [u8], reading: u32) -> Ticked
+    ensures handed { TickHands state.old area.old reading result area.new }
+    ensures left { state.new ≡ result.state }
 {
     let answer = state.try_tick(area, reading);
     let told = answers::numbers_told(answer);
     Ticked {
-        state,
+        state: *state,
         number: told.number,
         closed: told.first,
     }
 }
 
-/// A piece of connection `n`'s bytes is delivered.
+/// `tick_in_place` of a record that is passed and handed back.
+pub fn melorwyth_tick(mut state: Record, area: &mut [u8], reading: u32) -> Ticked
+    ensures { TickHands state area.old reading result area.new }
+{
+    tick_in_place(&mut state, area, reading)
+}
+
+/// A piece of connection `n`'s bytes is delivered, to the record where it stands.
 #[tactic(auto, using(crate::proofs::Tellings::told, crate::proofs::Tellings::area_told, crate::proofs::Tellings::output_told), unfolding(crate::specs::Answers::delivered_of))]
+pub fn deliver_in_place(
+    state: &mut Record,
+    area: &mut [u8],
+    n: u8,
+    piece: &[u8],
+    output: &mut [u8],
+) -> Delivered
+    ensures handed { DeliverHands state.old area.old n piece.now output.old result
+        area.new output.new }
+    ensures left { state.new ≡ result.state }
+{
+    let answer = state.try_deliver(area, n, piece, output);
+    let told = answers::numbers_told(answer);
+    let fault = fault_of(answer);
+    let length = length_of(answer);
+    Delivered {
+        state: *state,
+        number: told.number,
+        kind: told.first,
+        fault,
+        taken: told.second,
+        length,
+    }
+}
+
+/// `deliver_in_place` of a record that is passed and handed back.
 pub fn melorwyth_deliver(
     mut state: Record,
     area: &mut [u8],
@@ -201,30 +252,20 @@ pub fn melorwyth_deliver(
     ensures { DeliverHands state area.old n piece.now output.old result
         area.new output.new }
 {
-    let answer = state.try_deliver(area, n, piece, output);
-    let told = answers::numbers_told(answer);
-    let fault = fault_of(answer);
-    let length = length_of(answer);
-    Delivered {
-        state,
-        number: told.number,
-        kind: told.first,
-        fault,
-        taken: told.second,
-        length,
-    }
+    deliver_in_place(&mut state, area, n, piece, output)
 }
 
-/// One message that waits is taken.
+/// One message that waits is taken, of the record where it stands.
 #[tactic(auto, using(crate::proofs::Tellings::told, crate::proofs::Tellings::output_told), unfolding(crate::specs::Answers::taken_of))]
-pub fn melorwyth_take(mut state: Record, output: &mut [u8]) -> Taken
-    ensures { TakeHands state output.old result output.new }
+pub fn take_in_place(state: &mut Record, output: &mut [u8]) -> Taken
+    ensures handed { TakeHands state.old output.old result output.new }
+    ensures left { state.new ≡ result.state }
 {
     let answer = state.try_take(output);
     let told = answers::numbers_told(answer);
     let connection = connection_of(answer);
     Taken {
-        state,
+        state: *state,
         number: told.number,
         kind: told.first,
         connection,
@@ -232,18 +273,33 @@ pub fn melorwyth_take(mut state: Record, output: &mut [u8]) -> Taken
     }
 }
 
-/// A datagram came on the reset mechanism's port.
-#[tactic(auto, using(crate::proofs::Tellings::told, crate::proofs::Tellings::area_told), unfolding(crate::specs::Answers::reset_of))]
-pub fn melorwyth_datagram(mut state: Record, area: &mut [u8], datagram: &[u8]) -> Reset
-    ensures { DatagramHands state area.old datagram.now result area.new }
+/// `take_in_place` of a record that is passed and handed back.
+pub fn melorwyth_take(mut state: Record, output: &mut [u8]) -> Taken
+    ensures { TakeHands state output.old result output.new }
 {
-    let answer = reset::try_datagram(&mut state, area, datagram);
+    take_in_place(&mut state, output)
+}
+
+/// A datagram came on the reset mechanism's port, to the record where it stands.
+#[tactic(auto, using(crate::proofs::Tellings::told, crate::proofs::Tellings::area_told), unfolding(crate::specs::Answers::reset_of))]
+pub fn datagram_in_place(state: &mut Record, area: &mut [u8], datagram: &[u8]) -> Reset
+    ensures handed { DatagramHands state.old area.old datagram.now result area.new }
+    ensures left { state.new ≡ result.state }
+{
+    let answer = reset::try_datagram(state, area, datagram);
     let told = answers::numbers_told(answer);
     Reset {
-        state,
+        state: *state,
         number: told.number,
         reset: told.first,
     }
+}
+
+/// `datagram_in_place` of a record that is passed and handed back.
+pub fn melorwyth_datagram(mut state: Record, area: &mut [u8], datagram: &[u8]) -> Reset
+    ensures { DatagramHands state area.old datagram.now result area.new }
+{
+    datagram_in_place(&mut state, area, datagram)
 }
 
 // Two results of a function that its promise allows are equal.

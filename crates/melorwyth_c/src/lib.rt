@@ -1,12 +1,11 @@
-//! The C boundary, and the archive that C and Rust link. A call that is passed the record changes it in place and hands it
-//! back at its one exit, here and not in melorwyth: through another call the record would be copied once more.
+//! The C boundary, and the archive that C and Rust link: each export is one call of melorwyth. Where it is passed the record, that is
+//! the call in place: handed on by value the record would be copied once more.
 #![tactic(auto)]
 
 ghost use Rattle.melorwyth.specs.Promises.{VersionHands, FreshHands, ClearHands, OpenHands, CloseHands, TickHands};
 ghost use Rattle.melorwyth.specs.Promises.{DeliverHands, TakeHands, DatagramHands};
 ghost use Rattle.melorwyth.specs.Promises.{AppendHands, ContextHands, EntryHands, KeepAliveHands, PartHands, ReadingHands, StartHands};
 
-use answers::numbers_told;
 use endpoint::Record;
 use melorwyth::messages::{Entry, Part, Reading, Written};
 use melorwyth::{Cleared, Closed, Delivered, Opened, Reset, Taken, Ticked};
@@ -36,51 +35,30 @@ pub extern "C" fn melorwyth_clear(area: &mut [u8]) -> Cleared
 }
 
 /// A connection is opened: its number.
-#[tactic(auto, using(melorwyth::proofs::Tellings::told), unfolding(melorwyth::specs::Answers::opened_of))]
 #[unsafe(no_mangle)]
 pub extern "C" fn melorwyth_open(mut state: Record) -> Opened
     ensures { OpenHands state result }
 {
-    let answer = state.try_open();
-    let told = numbers_told(answer);
-    Opened {
-        state,
-        number: told.number,
-        connection: told.first,
-    }
+    melorwyth::open_in_place(&mut state)
 }
 
 /// The host's close of connection `n`.
-#[tactic(auto, using(melorwyth::proofs::Tellings::told, melorwyth::proofs::Tellings::area_told), unfolding(melorwyth::specs::Answers::closed_of))]
 #[unsafe(no_mangle)]
 pub extern "C" fn melorwyth_close(mut state: Record, area: &mut [u8], n: u8) -> Closed
     ensures { CloseHands state area.old n result area.new }
 {
-    let answer = state.try_close(area, n);
-    let told = numbers_told(answer);
-    Closed {
-        state,
-        number: told.number,
-    }
+    melorwyth::close_in_place(&mut state, area, n)
 }
 
 /// Time passes, to a reading in milliseconds: the connections closed, a bit each.
-#[tactic(auto, using(melorwyth::proofs::Tellings::told, melorwyth::proofs::Tellings::area_told), unfolding(melorwyth::specs::Answers::ticked_of))]
 #[unsafe(no_mangle)]
 pub extern "C" fn melorwyth_tick(mut state: Record, area: &mut [u8], reading: u32) -> Ticked
     ensures { TickHands state area.old reading result area.new }
 {
-    let answer = state.try_tick(area, reading);
-    let told = numbers_told(answer);
-    Ticked {
-        state,
-        number: told.number,
-        closed: told.first,
-    }
+    melorwyth::tick_in_place(&mut state, area, reading)
 }
 
 /// A piece of connection `n`'s bytes is delivered.
-#[tactic(auto, using(melorwyth::proofs::Tellings::told, melorwyth::proofs::Tellings::area_told, melorwyth::proofs::Tellings::output_told), unfolding(melorwyth::specs::Answers::delivered_of))]
 #[unsafe(no_mangle)]
 pub extern "C" fn melorwyth_deliver(
     mut state: Record,
@@ -92,51 +70,23 @@ pub extern "C" fn melorwyth_deliver(
     ensures { DeliverHands state area.old n piece.now output.old result
         area.new output.new }
 {
-    let answer = state.try_deliver(area, n, piece, output);
-    let told = numbers_told(answer);
-    let fault = melorwyth::fault_of(answer);
-    let length = melorwyth::length_of(answer);
-    Delivered {
-        state,
-        number: told.number,
-        kind: told.first,
-        fault,
-        taken: told.second,
-        length,
-    }
+    melorwyth::deliver_in_place(&mut state, area, n, piece, output)
 }
 
 /// One message that waits is taken.
-#[tactic(auto, using(melorwyth::proofs::Tellings::told, melorwyth::proofs::Tellings::output_told), unfolding(melorwyth::specs::Answers::taken_of))]
 #[unsafe(no_mangle)]
 pub extern "C" fn melorwyth_take(mut state: Record, output: &mut [u8]) -> Taken
     ensures { TakeHands state output.old result output.new }
 {
-    let answer = state.try_take(output);
-    let told = numbers_told(answer);
-    let connection = melorwyth::connection_of(answer);
-    Taken {
-        state,
-        number: told.number,
-        kind: told.first,
-        connection,
-        length: told.third,
-    }
+    melorwyth::take_in_place(&mut state, output)
 }
 
 /// A datagram came on the reset mechanism's port.
-#[tactic(auto, using(melorwyth::proofs::Tellings::told, melorwyth::proofs::Tellings::area_told), unfolding(melorwyth::specs::Answers::reset_of))]
 #[unsafe(no_mangle)]
 pub extern "C" fn melorwyth_datagram(mut state: Record, area: &mut [u8], datagram: &[u8]) -> Reset
     ensures { DatagramHands state area.old datagram.now result area.new }
 {
-    let answer = reset::try_datagram(&mut state, area, datagram);
-    let told = numbers_told(answer);
-    Reset {
-        state,
-        number: told.number,
-        reset: told.first,
-    }
+    melorwyth::datagram_in_place(&mut state, area, datagram)
 }
 
 /// The message at the bytes' front.
