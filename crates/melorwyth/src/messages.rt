@@ -8,10 +8,8 @@ ghost use Rattle.melorwyth.specs.Promises.{ReadingHands, EntryHands, PartHands, 
 ghost use Rattle.melorwyth.specs.Promises.{StartHands, AppendHands, KeepAliveHands};
 
 use fields::{CommandFields, NotificationFields};
-use numbers::{Fault, Refusal};
+use numbers::{Fault, NOT_REFUSED, Refusal};
 use reader::Message;
-
-const NOT_REFUSED: u8 = 0;
 
 /// A message, or a refusal.
 #[repr(C)]

@@ -116,7 +116,7 @@ pub fn run(mut state: Record, area: &mut [u8], script: &[u8], output: &mut [u8])
         area.new output.new }
 {
     let mut answer = Numbers {
-        number: 0,
+        number: numbers::NOT_REFUSED,
         first: 0,
         second: 0,
         third: 0,
