@@ -24,6 +24,7 @@ use Rattle.lister.proofs.Cuts.{end_over, listed_within, listed_more, unlisted_mo
 use Rattle.turns.specs.Turns.{turn_text, Turned}
 use Rattle.turns.specs.Ends.{ListingRuns, ListingEnds}
 use Rattle.turns.specs.Scaffold.{greatest_offset}
+use Rattle.turns.proofs.Worlds.{no_room}
 use Rattle.turns.specs.declared.Held.{Held}
 use Rattle.turns.specs.declared.Stopped.{Stopped}
 use Rattle.turns.specs.declared.Stopped.TheVariants.{Unread, Unsaid, Limit}
@@ -45,14 +46,6 @@ behind_is b l e = ap behind e
 nothing_left : (b : Option (List ℕ)) → IsAtEnd b → behind b ≡ []
 nothing_left None e = refl
 nothing_left (Some l) e = e
-
--- text for which there was no room behind some that was kept
-no_room : (room : Option ℕ) (text₀ text : Option (List ℕ)) (said a : List ℕ) (m : ℕ) → Appends text₀ text said → length said + length a ≤ m
-    → IfSome room (λ n. IfSome text (λ t. n < length t + length a)) → IfSome room (λ n. IfSome text₀ (λ k. n < length k + m))
-no_room None text₀ text said a m k l h = tt
-no_room (Some n) None text said a m k l h = tt
-no_room (Some n) (Some x) None said a m k l h = absurd k
-no_room (Some n) (Some x) (Some y) said a m k l h = omega (arith, h, l, ap length k, length-append x said)
 
 -- nothing was read
 pub running_none : (left text : Option (List ℕ)) (input : List ℕ) → ListingRuns left left text text input 0 0

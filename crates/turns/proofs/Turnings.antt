@@ -9,7 +9,7 @@ use lib.Dec.{eqb}
 use lib.ListN.{length, take, drop, length-drop, length-append}
 use lib.Seq.{sets, length-sets, take_at, take-add, length-take-le}
 use borrow.Author.Tests.{eqb-false}
-use Rattle.std.specs.Prelude.{IfSome, IsOk, IsErr, Ok, Err, Some, ◌≢◌}
+use Rattle.std.specs.Prelude.{IfSome, IsOk, IsErr, OnErr, Ok, Err, Some, ◌≢◌}
 use Rattle.std.specs.Result.{IsOkUnless, result_unwrap_or}
 use Rattle.std.specs.declared.result.Result.{Result}
 use Rattle.std.specs.Io.KnownBytes.{IsAtEnd}
@@ -21,7 +21,7 @@ use Rattle.lister.specs.Listing.{listed_bytes, unlisted}
 use Rattle.lister.specs.Pieces.{over, piece_text, ListsPiece}
 use Rattle.lister.specs.declared.Piece.{Piece}
 use Rattle.lister.proofs.Cuts.{end_over, listed_within, pieces_laws}
-use Rattle.turns.specs.Turns.{Goes, turn_text, Turned}
+use Rattle.turns.specs.Turns.{Goes, turn_text, Turned, TurnedWhole}
 use Rattle.turns.specs.Scaffold.{ReadsMore, HandsOver}
 use Rattle.turns.specs.declared.Held.{Held}
 use Rattle.turns.specs.declared.Stopped.{Stopped}
@@ -103,9 +103,6 @@ module _ (l₀ l₁ : Option (List ℕ)) (sure : Bool) (x₀ x₁ : Option (List
   turned_full : IsErr u → IfSome m₀ (λ n. IfSome x₀ (λ t. n < length t + length (turn_text offset (take held i₀) came)))
   turned_full o = rw put_text at (on_err u o h.full)
 
-  turned_unsaid : IsErr u → IfSome m₀ (λ n. h.taken ≡ 0)
-  turned_unsaid o = on_err u o h.none
-
   turned_goes : (x : Held) → outcome ≡ Ok (Some x) → Goes offset (take held i₀) came i₂ x
   unfolding outcome
   turned_goes x e =
@@ -116,12 +113,11 @@ module _ (l₀ l₁ : Option (List ℕ)) (sure : Bool) (x₀ x₁ : Option (List
   unfolding outcome
   turned_end o e = on_ok c (read_fine c u p.over next unread o) q.end (sym z ∙ sym came_length ∙ e)
 
-  pub turned : (r : Result (Option Held) Stopped) → outcome_of c u p.over (record { offset = offset + p.used; held = held + n - p.used }) ≡ r
-      → Turned l₀ l₁ sure x₀ x₁ m₀ m₁ offset (take held i₀) i₂ o₁ r
+  -- of the outcome itself
+  turned_here : Turned l₀ l₁ sure x₀ x₁ m₀ m₁ offset (take held i₀) i₂ o₁ outcome
   unfolding came outcome next
-  turned r i =
-      subst (λ (r : Result (Option Held) Stopped). Turned l₀ l₁ sure x₀ x₁ m₀ m₁ offset (take held i₀) i₂ o₁ r) i
-      (record {
+  turned_here =
+      record {
         piece = came;
         taken = h.taken;
         put = rw put_length put_text;
@@ -134,10 +130,23 @@ module _ (l₀ l₁ : Option (List ℕ)) (sure : Bool) (x₀ x₁ : Option (List
         told = λ s e. unread_failed c u p.over next unsaid e (q.told s);
         takes = rw (← put_text) h.takes;
         all = λ e. turned_all (all_fine c u p.over next e);
-        unsaid = λ e. turned_unsaid (unsaid_failed c u p.over next unread e);
         full = λ e. turned_full (unsaid_failed c u p.over next unread e);
         same = h.same;
-      })
+      }
+
+  pub turned : (r : Result (Option Held) Stopped) → outcome_of c u p.over (record { offset = offset + p.used; held = held + n - p.used }) ≡ r
+      → Turned l₀ l₁ sure x₀ x₁ m₀ m₁ offset (take held i₀) i₂ o₁ r
+  unfolding outcome next
+  turned r i = subst (λ (r : Result (Option Held) Stopped). Turned l₀ l₁ sure x₀ x₁ m₀ m₁ offset (take held i₀) i₂ o₁ r) i turned_here
+
+  -- where a text that is refused is not taken at all
+  pub turned_whole : OnErr u (IfSome m₀ (λ n. h.taken ≡ 0)) → (r : Result (Option Held) Stopped)
+      → outcome_of c u p.over (record { offset = offset + p.used; held = held + n - p.used }) ≡ r
+      → TurnedWhole l₀ l₁ sure x₀ x₁ m₀ m₁ offset (take held i₀) i₂ o₁ r
+  unfolding outcome next turned_here
+  turned_whole k r i =
+      subst (λ (r : Result (Option Held) Stopped). TurnedWhole l₀ l₁ sure x₀ x₁ m₀ m₁ offset (take held i₀) i₂ o₁ r) i
+      (record { turned = turned_here; unsaid = λ e. on_err u (unsaid_failed c u p.over next unread e) k })
 
 -- few bytes are held, and more bytes than before are read
 pub goes_on : {offset : ℕ} {held piece input : List ℕ} {r : Held} → Goes offset held piece input r

@@ -1,5 +1,5 @@
 -- For the contracts of inner functions and for proofs: no rule is here.
-use Rattle.std.specs.Prelude.{ℕ, ◌+◌, ◌≤◌, ◌<◌, ◌≡◌, List, Bool, true, length, take, drop, IfSome, IsOk, OnOk, OnErr}
+use Rattle.std.specs.Prelude.{ℕ, ◌+◌, ◌≤◌, ◌<◌, ◌≡◌, List, Bool, true, false, length, take, drop, IfSome, IsOk, OnOk, OnErr}
 use Rattle.std.specs.Result.{result_unwrap_or}
 use Rattle.std.specs.declared.option.Option.{Option}
 use Rattle.std.specs.declared.result.Result.{Result}
@@ -34,8 +34,18 @@ pub record ReadsMore {E : Type 0} (left left' : Option (List ℕ)) (sure : Bool)
   pub end : OnOk r (result_unwrap_or r 0 ≡ 0 → IsAtEnd left')
   pub told : sure ≡ true → IsOk r
 
--- s was handed over: its front alone where that failed. Where the room is known, there was none for all of it then, and none was taken.
+-- s was handed over: its front alone where that failed. Where the room is known, there was none for all of it then.
 pub record HandsOver {E : Type 0} (text text' : Option (List ℕ)) (room room' : Option ℕ) (s : List ℕ) (r : Result (Unit {0}) E)
+    : Type 0 where
+  pub taken : ℕ
+  pub within : taken ≤ length s
+  pub takes : Appends text text' (take taken s)
+  pub same : room' ≡ room
+  pub all : OnOk r (taken ≡ length s)
+  pub full : OnErr r (IfSome room (λ n. IfSome text (λ t. n < length t + length s)))
+
+-- The same where an error says, if the room is known, that none of s was taken.
+pub record HandsWhole {E : Type 0} (text text' : Option (List ℕ)) (room room' : Option ℕ) (s : List ℕ) (r : Result (Unit {0}) E)
     : Type 0 where
   pub taken : ℕ
   pub within : taken ≤ length s
@@ -44,3 +54,8 @@ pub record HandsOver {E : Type 0} (text text' : Option (List ℕ)) (room room' :
   pub all : OnOk r (taken ≡ length s)
   pub none : OnErr r (IfSome room (λ n. taken ≡ 0))
   pub full : OnErr r (IfSome room (λ n. IfSome text (λ t. n < length t + length s)))
+
+-- What is said of a sink that is whole, and of no other.
+abbrev pub OfWhole : Bool → Type 0 → Type 0
+OfWhole true P = P
+OfWhole false P = Unit {0}

@@ -51,7 +51,11 @@ pub record Turned (left left' : Option (List ℕ)) (sure : Bool) (text text' : O
   -- what was handed over
   pub takes : Appends text text' (take taken (turn_text offset held piece))
   pub all : IsOk r → taken ≡ length (turn_text offset held piece)
-  -- a text for which there is no room is not taken
-  pub unsaid : r ≡ Err Unsaid → IfSome room (λ n. taken ≡ 0)
   pub full : r ≡ Err Unsaid → IfSome room (λ n. IfSome text (λ t. n < length t + length (turn_text offset held piece)))
   pub same : room' ≡ room
+
+-- R80. And a text for which there is no room is not taken.
+pub record TurnedWhole (left left' : Option (List ℕ)) (sure : Bool) (text text' : Option (List ℕ)) (room room' : Option ℕ) (offset : ℕ)
+    (held : List ℕ) (input out : List ℕ) (r : Result (Option Held) Stopped) : Type 0 where
+  pub turned : Turned left left' sure text text' room room' offset held input out r
+  pub unsaid : r ≡ Err Unsaid → IfSome room (λ n. turned.taken ≡ 0)

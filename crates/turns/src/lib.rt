@@ -6,8 +6,8 @@
 
 ghost use Rattle.std.specs.Prelude.{◌≡◌, ◌<◌, length, take, IsOkUnless};
 ghost use Rattle.turns.specs.Ends.{ListingEnds, DescriptorListed, TapeListed};
-ghost use Rattle.turns.specs.Scaffold.{TurnReady, ReadsMore, HandsOver};
-ghost use Rattle.turns.specs.Turns.{Turned};
+ghost use Rattle.turns.specs.Scaffold.{TurnReady, ReadsMore, HandsOver, HandsWhole, OfWhole};
+ghost use Rattle.turns.specs.Turns.{Turned, TurnedWhole};
 
 use sink::{Page, Sink};
 use source::{Source, Tape, Through};
@@ -15,6 +15,8 @@ use std::io::{Read, Write};
 
 pub mod sink;
 pub mod source;
+#[cfg(test)]
+mod tests;
 
 /// The bytes of the input's buffer. A message has at least 10 bytes and a line at most 40, so io's large buffer has room for the lines of
 /// a piece.
@@ -65,6 +67,8 @@ fn read_piece<S: Source, E: Write>(
 // Hands some text over, and tells if that cannot be done.
 fn hand_over<K: Sink, E: Write>(sink: &mut K, errors: &mut E, text: &[u8]) -> Result<(), Stopped>
     ensures hands { HandsOver (K.text sink.old) (K.text sink.new) (K.room sink.old) (K.room sink.new) text.now result }
+    ensures all_or_none { OfWhole K.whole (HandsWhole (K.text sink.old) (K.text sink.new) (K.room sink.old) (K.room sink.new)
+        text.now result) }
     ensures unsaid { IsOkUnless result Stopped.Unsaid }
     ensures same_reference { K.name sink.new ≡ K.name sink.old }
 {
@@ -90,6 +94,8 @@ fn turn<S: Source, K: Sink, E: Write>(
     requires { TurnReady input.old out.old offset held }
     ensures turned { Turned (S.left source.old) (S.left source.new) S.sure (K.text sink.old) (K.text sink.new) (K.room sink.old)
         (K.room sink.new) offset (take held input.old) input.new out.new result }
+    ensures all_or_none { OfWhole K.whole (TurnedWhole (S.left source.old) (S.left source.new) S.sure (K.text sink.old) (K.text sink.new)
+        (K.room sink.old) (K.room sink.new) offset (take held input.old) input.new out.new result) }
     ensures same_references { (S.name source.new ≡ S.name source.old) × (K.name sink.new ≡ K.name sink.old) }
 {
     let came = read_piece(source, errors, input, held);
