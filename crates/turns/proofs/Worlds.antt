@@ -34,7 +34,7 @@ err_then : {T E P Q : Type 0} (r : Result T E) → (P → Q) → OnErr r P → O
 err_then (Ok x) f p = p
 err_then (Err e) f p = f p
 
--- a front was taken whole, and then the rest or a front of it
+-- a front was taken whole, and then the rest or a front of it: for whoever hands over in two parts, as two edits do
 pub hands_two : {E F : Type 0} (a b d : Option (List ℕ)) (m m₁ m₂ : Option ℕ) (f : ℕ) (s : List ℕ) (q : Result (Unit {0}) E) (r : Result (Unit {0}) F)
     → f ≤ length s → IsOk q → HandsOver a b m m₁ (take f s) q → HandsOver b d m₁ m₂ (take (length s - f) (drop f s)) r → HandsOver a d m m₂ s r
 hands_two a b d m m₁ m₂ f s q r h o p k =
@@ -67,7 +67,7 @@ abbrev pub fronts : {E : Type 0} {text text' : Option (List ℕ)} {room room' : 
     → HandsWhole text text' room room' s r → HandsOver text text' room room' s r
 fronts h = record { taken = h.taken; within = h.within; takes = h.takes; same = h.same; all = h.all; full = h.full }
 
--- a text of which a front was refused
+-- a text of which a front was refused, for the same
 pub whole_front : {E F : Type 0} (b : Bool) (a c : Option (List ℕ)) (m m₁ : Option ℕ) (f : ℕ) (s : List ℕ) (e : E) (q : Result (Unit {0}) E) (r : Result (Unit {0}) F)
     → q ≡ Err e → IsErr r → OfWhole b (HandsWhole a c m m₁ (take f s) q) → OfWhole b (HandsWhole a c m m₁ s r)
 whole_front b a c m m₁ f s e q (Ok x) u v k = cc
