@@ -1,10 +1,12 @@
 -- What is handed over in several writes, or in parts. Assumes nothing.
-use Rattle.std.proofs.Common.{ℕ, ◌+◌, ◌-◌, ◌≤◌, ◌<◌, ◌≡◌, ap, ◌∙◌, subst, Bool, true, false, List, [], arith, length, take, drop, length-take, length-drop, length-append, Ok, Err, Some, None, Result, IsOk, IsErr, OnOk, OnErr}
+use Rattle.std.proofs.Common.{ℕ, ◌+◌, ◌-◌, ◌≤◌, ◌<◌, ◌≡◌, ap, ◌∙◌, subst, Bool, true, false, List, [], arith, length, take, drop, length-take, length-drop, length-append, Ok, Err, Some, None, Result, IsOk, IsErr}
 use lib.Seq.{take_all, take-take, take-add, length-take-le}
 use Rattle.std.specs.Prelude.{IfSome}
 use Rattle.std.specs.Io.KnownBytes.{Appends}
 use Rattle.std.specs.declared.option.Option.{Option}
 use Rattle.std.proofs.KnownBytes.{Appends-nil, Appends-trans}
+use Rattle.std.proofs.lemmas.Result.{on_ok_weaker, on_err_weaker}
+use Rattle.turns.proofs.Outcomes.{on_ok}
 use Rattle.turns.specs.Scaffold.{HandsOver, HandsWhole, OfWhole}
 
 -- a write more, of the front of what is left
@@ -25,21 +27,12 @@ no_room (Some n) None text said a m k l h = tt
 no_room (Some n) (Some x) None said a m k l h = absurd k
 no_room (Some n) (Some x) (Some y) said a m k l h = omega (arith, h, l, ap length k, length-append x said)
 
--- what is said of a value, or of an error, and what follows of it
-ok_then : {T E P Q : Type 0} (r : Result T E) → (P → Q) → OnOk r P → OnOk r Q
-ok_then (Ok x) f p = f p
-ok_then (Err e) f p = p
-
-err_then : {T E P Q : Type 0} (r : Result T E) → (P → Q) → OnErr r P → OnErr r Q
-err_then (Ok x) f p = p
-err_then (Err e) f p = f p
-
 -- a front was taken whole, and then the rest or a front of it: for whoever hands over in two parts, as two edits do
 pub hands_two : {E F : Type 0} (a b d : Option (List ℕ)) (m m₁ m₂ : Option ℕ) (f : ℕ) (s : List ℕ) (q : Result (Unit {0}) E) (r : Result (Unit {0}) F)
     → f ≤ length s → IsOk q → HandsOver a b m m₁ (take f s) q → HandsOver b d m₁ m₂ (take (length s - f) (drop f s)) r → HandsOver a d m m₂ s r
 hands_two a b d m m₁ m₂ f s q r h o p k =
     let n = length-take-le f s h in
-    let t : p.taken ≡ f = given q o p.all ∙ n in
+    let t : p.taken ≡ f = on_ok q o p.all ∙ n in
     let x : Appends a b (take f s) = subst (λ z. Appends a b z) (ap (λ i. take i (take f s)) t ∙ take_all f (take f s) (omega (arith, n))) p.takes in
     let w = writes_more a b d s f k.taken h x k.within k.takes in
     let l : length (take (length s - f) (drop f s)) ≡ length s - f = length-take-le (length s - f) (drop f s) (omega (arith, length-drop f s)) in
@@ -48,13 +41,9 @@ hands_two a b d m m₁ m₂ f s q r h o p k =
       within = w.0;
       takes = w.1;
       same = k.same ∙ p.same;
-      all = ok_then r (λ e. omega (arith, e, l, h)) k.all;
-      full = err_then r (λ e. no_room m a b (take f s) (take (length s - f) (drop f s)) (length s) x (omega (arith, l, n, h)) (subst (λ m. IfSome m (λ i. IfSome b (λ t. i < length t + length (take (length s - f) (drop f s))))) p.same e)) k.full;
+      all = on_ok_weaker r (λ e. omega (arith, e, l, h)) k.all;
+      full = on_err_weaker r (λ e. no_room m a b (take f s) (take (length s - f) (drop f s)) (length s) x (omega (arith, l, n, h)) (subst (λ m. IfSome m (λ i. IfSome b (λ t. i < length t + length (take (length s - f) (drop f s))))) p.same e)) k.full;
     }
-  where
-    given : {T E P : Type 0} (r : Result T E) → IsOk r → OnOk r P → P
-    given (Ok x) o p = p
-    given (Err e) o p = cc
 
 -- ---- a sink that is whole
 -- what follows of it

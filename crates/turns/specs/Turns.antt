@@ -54,7 +54,7 @@ pub record Turned (left left' : Option (List ℕ)) (sure : Bool) (text text' : O
   pub full : r ≡ Err Unsaid → IfSome room (λ n. IfSome text (λ t. n < length t + length (turn_text offset held piece)))
   pub same : room' ≡ room
 
--- R80. And a text for which there is no room is not taken.
+-- R80. The same, and where it ends with Unsaid and the room is known, none of the text was handed over.
 pub record TurnedWhole (left left' : Option (List ℕ)) (sure : Bool) (text text' : Option (List ℕ)) (room room' : Option ℕ) (offset : ℕ)
     (held : List ℕ) (input out : List ℕ) (r : Result (Option Held) Stopped) : Type 0 where
   pub turned : Turned left left' sure text text' room room' offset held input out r
